@@ -1,0 +1,5 @@
+mod Counts
+mod Heavy
+pub mod Sets
+mod Thresholds
+pub mod Weights

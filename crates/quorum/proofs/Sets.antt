@@ -1,0 +1,98 @@
+-- The theory of sets of seats: which seats a set holds.
+-- Assumes nothing.
+use mathlib.Core.Path.{_≡_, refl, sym, ap, ap₂, subst, _∙_}
+use mathlib.Core.Bool.{Bool, true, false, not, _||_, _&&_}
+use mathlib.Core.Logic.{_⊎_, inl, inr}
+use Prim.Native.Nat.{ℕ, zero, suc, _+_, _-_, _*_, _/_, _%_, _^_, _≤_, _<_}
+use native.Mathlib.Nat.{pow-suc, div-one, zero-div, zero-sub, zero-mod, div-eq-of-lt, lt-of-lt-of-le}
+use native.Mathlib.Numerals.{one-add, add-one}
+use native.Mathlib.Omega.{arith}
+use lib.Bits.{bitOr, or-shr, or-mod}
+use lib.Dec.{T, eqb, ltb, leb·zero, leb·suc-zero, leb·suc-suc}
+use lib.Pow.{pow-pos, pow-mono}
+use Rattle.std.proofs.shelf.Bits.{shr-shr, le-div, mod-below, mod-pow-add, div-mul-add, mod-mul-add}
+use Rattle.std.proofs.shelf.Tests.{cases-lt, lt-ltb, le-ltb, ne-eqb}
+use Rattle.quorum.specs.Seats.{held, Holds, union, everyone, everyone-but}
+
+-- seat s + 1 of a set is seat s of its upper digits
+pub held-suc : (s q : ℕ) → held (suc s) q ≡ held s (q / 2)
+held-suc s q = ap (λ x. eqb (x % 2) 1) (sym (shr-shr q 1 s ∙ ap (λ x. q / 2 ^ x) (one-add s)))
+
+pub held-zero : (q : ℕ) → held 0 q ≡ eqb (q % 2) 1
+held-zero q = ap (λ x. eqb (x % 2) 1) (div-one q)
+
+pub digit : (x : ℕ) → (x % 2 ≡ 0) ⊎ (x % 2 ≡ 1)
+digit x = elim (cases-lt (x % 2) 1) [ inl h ↦ inl (omega arith) | inr h ↦ inr (omega arith) ]
+
+-- the empty set holds no seat
+pub held-none : (s : ℕ) → held s 0 ≡ false
+held-none s = ap (λ x. eqb (x % 2) 1) (zero-div (2 ^ s))
+
+or-digits : (a b : ℕ) → (a ≡ 0) ⊎ (a ≡ 1) → (b ≡ 0) ⊎ (b ≡ 1) → eqb (bitOr a b) 1 ≡ (eqb a 1 || eqb b 1)
+or-digits a b (inl e) (inl f) = rw (e, f)
+or-digits a b (inl e) (inr f) = rw (e, f)
+or-digits a b (inr e) (inl f) = rw (e, f)
+or-digits a b (inr e) (inr f) = rw (e, f)
+
+-- a union holds what either set holds
+pub held-union : (s p q : ℕ) → held s (union p q) ≡ (held s p || held s q)
+held-union s p q =
+    ap (λ x. eqb (x % 2) 1) (or-shr p q s) ∙ ap (λ x. eqb x 1) (or-mod (p / 2 ^ s) (q / 2 ^ s) 1)
+    ∙ or-digits (p / 2 ^ s % 2) (q / 2 ^ s % 2) (digit (p / 2 ^ s)) (digit (q / 2 ^ s))
+
+-- a set is below 2 ^ n exactly where it has no digits from n on
+pub no-upper-digits : (n q : ℕ) → eqb (q / 2 ^ n) 0 ≡ ltb q (2 ^ n)
+no-upper-digits n q =
+    elim (cases-lt q (2 ^ n)) [
+      | inl h ↦ ap (λ x. eqb x 0) (div-eq-of-lt h) ∙ sym (lt-ltb q (2 ^ n) h)
+      | inr h ↦
+          let some : 1 ≤ q / 2 ^ n = le-div 1 q (2 ^ n) (pow-pos n) (omega arith) in
+          ne-eqb (q / 2 ^ n) 0 (λ e. omega arith) ∙ sym (le-ltb q (2 ^ n) h)
+    ]
+
+-- a set below 2 ^ s lacks seat s
+pub held-beyond : (s q : ℕ) → q < 2 ^ s → held s q ≡ false
+held-beyond s q h = ap (λ x. eqb (x % 2) 1) (div-eq-of-lt h)
+
+-- a set below 2 ^ n holds only seats below n
+pub held-within : (n s q : ℕ) → q < 2 ^ n → Holds s q → s < n
+held-within n s q h t =
+    elim (cases-lt s n) [ inl lt ↦ lt | inr ge ↦ absurd (subst T (held-beyond s q (lt-of-lt-of-le h (pow-mono ge))) t) ]
+
+-- the digits of everyone but q: the lowest is q's turned over, and the others are those of everyone but q's others
+but-halves : (n q : ℕ) → (everyone-but (suc n) q % 2 ≡ 1 - q % 2) × (everyone-but (suc n) q / 2 ≡ everyone-but n (q / 2))
+but-halves n q =
+    let A = 2 ^ n in
+    let r = q / 2 % 2 ^ n in
+    let double : 2 ^ suc n ≡ A * 2 = pow-suc 2 n in
+    let parts : q % 2 ^ suc n ≡ r * 2 + q % 2 = ap (λ x. q % 2 ^ x) (sym (add-one n)) ∙ mod-pow-add q n 1 in
+    let below : r < A = mod-below (q / 2) (2 ^ n) (pow-pos n) in
+    let small : q % 2 < 2 = mod-below q 2 (omega arith) in
+    let whole : everyone-but (suc n) q ≡ (A - 1 - r) * 2 + (1 - q % 2) = omega (arith, double, parts, below, small) in
+    let top : 1 - q % 2 < 2 = omega arith in
+    (ap (λ x. x % 2) whole ∙ mod-mul-add (A - 1 - r) 2 (1 - q % 2) top, ap (λ x. x / 2) whole ∙ div-mul-add (A - 1 - r) 2 (1 - q % 2) top)
+
+turned : (b : ℕ) → (b ≡ 0) ⊎ (b ≡ 1) → eqb (1 - b) 1 ≡ not (eqb b 1)
+turned b (inl e) = rw e
+turned b (inr e) = rw e
+
+and-true : (b : Bool) → (b && true) ≡ b
+and-true true = refl
+and-true false = refl
+
+-- everyone but q holds the seats below n that q does not hold
+pub held-but : (n s q : ℕ) → held s (everyone-but n q) ≡ (ltb s n && not (held s q))
+held-but zero s q =
+    ap (held s) (zero-sub (q % 1)) ∙ held-none s ∙ sym (ap (λ b. b && not (held s q)) (leb·suc-zero s))
+held-but (suc n) zero q =
+    held-zero (everyone-but (suc n) q) ∙ ap (λ x. eqb x 1) (but-halves n q .0) ∙ turned (q % 2) (digit q)
+    ∙ ap not (sym (held-zero q)) ∙ sym (ap (λ b. b && not (held 0 q)) (leb·suc-suc 0 n ∙ leb·zero n))
+held-but (suc n) (suc s) q =
+    held-suc s (everyone-but (suc n) q) ∙ ap (held s) (but-halves n q .1) ∙ held-but n s (q / 2)
+    ∙ ap₂ (λ a b. a && not b) (sym (leb·suc-suc (suc s) n)) (sym (held-suc s q))
+
+-- all of the n seats: everyone but no one
+pub held-everyone : (n s : ℕ) → held s (everyone n) ≡ ltb s n
+held-everyone n s =
+    let whole : everyone n ≡ everyone-but n 0 = omega (arith, zero-mod (2 ^ n)) in
+    ap (held s) whole ∙ held-but n s 0 ∙ ap (λ b. ltb s n && not b) (held-none s) ∙ and-true (ltb s n)

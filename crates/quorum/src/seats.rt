@@ -1,0 +1,52 @@
+// Sets of seats.
+ghost use mathlib.Core.Path.{_≡_};
+ghost use Prim.Native.Nat.{min};
+ghost use Rattle.quorum.specs.Seats.{held, within, union, everyone, everyone-but, how-many};
+
+// A set of the seats 0 to 63: seat s is the bit worth 2^s.
+#[derive(Clone, Copy, Debug, PartialEq, Eq)]
+pub struct SeatSet {
+    pub bits: u64,
+}
+
+impl SeatSet {
+    // The first n seats; there are no more than 64.
+    pub fn everyone(n: u8) -> SeatSet
+        ensures { λ r. ⌜ r .bits ≡ everyone (min n 64) ⌝ }
+    {
+        if n >= 64 {
+            return SeatSet { bits: u64::MAX };
+        }
+        SeatSet { bits: (1 << n) - 1 }
+    }
+
+    // Whether the set holds a seat.
+    pub fn holds(self, seat: u8) -> bool
+        ensures { λ r. ⌜ r ≡ held seat (self .bits) ⌝ }
+    {
+        seat < 64 && (self.bits >> seat) & 1 == 1
+    }
+
+    // Whether each seat of the set is below n.
+    pub fn is_within(self, n: u8) -> bool
+        ensures { λ r. ⌜ r ≡ within n (self .bits) ⌝ }
+    {
+        n >= 64 || self.bits >> n == 0
+    }
+
+    // The seats of either set.
+    pub fn union(self, other: SeatSet) -> SeatSet
+        ensures { λ r. ⌜ r .bits ≡ union (self .bits) (other .bits) ⌝ }
+    {
+        SeatSet {
+            bits: self.bits | other.bits,
+        }
+    }
+
+    // How many seats the set holds.
+    pub fn count(self) -> u32
+        ensures { λ r. ⌜ r ≡ how-many (self .bits) ⌝ }
+    {
+        self.bits.count_ones()
+    }
+}

@@ -1,0 +1,4 @@
+// Who leads each view.
+pub mod listed;
+pub mod robin;
+pub mod turns;
