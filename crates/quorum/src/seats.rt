@@ -43,6 +43,16 @@ impl SeatSet {
         }
     }
 
+    // The first n seats without those of the set; there are no more than 64.
+    pub fn everyone_but(self, n: u8) -> SeatSet
+        ensures { λ r. ⌜ r .bits ≡ everyone-but (min n 64) (self .bits) ⌝ }
+    {
+        let everyone = SeatSet::everyone(n).bits;
+        SeatSet {
+            bits: everyone - (everyone & self.bits),
+        }
+    }
+
     // How many seats the set holds.
     pub fn count(self) -> u32
         ensures { λ r. ⌜ r ≡ how-many (self .bits) ⌝ }

@@ -1,0 +1,5 @@
+// Worked examples of every layer, as tests.
+#[cfg(test)]
+mod quorums;
+#[cfg(test)]
+mod rotations;
