@@ -1,18 +1,18 @@
 -- The theory of sets of seats: which seats a set holds.
 -- Assumes nothing.
 use mathlib.Core.Path.{_≡_, refl, sym, ap, ap₂, subst, _∙_}
-use mathlib.Core.Bool.{Bool, true, false, not, _||_, _&&_}
+use mathlib.Core.Bool.{Bool, true, false, cond, not, _||_, _&&_}
 use mathlib.Core.Logic.{_⊎_, inl, inr}
 use Prim.Native.Nat.{ℕ, zero, suc, _+_, _-_, _*_, _/_, _%_, _^_, _≤_, _<_}
-use native.Mathlib.Nat.{pow-suc, div-one, zero-div, zero-sub, zero-mod, div-eq-of-lt, lt-of-lt-of-le}
+use native.Mathlib.Nat.{pow-suc, div-one, zero-div, zero-sub, zero-mod, div-eq-of-lt, lt-of-lt-of-le, lt-of-le-of-lt, mul-mod-left}
 use native.Mathlib.Numerals.{one-add, add-one}
 use native.Mathlib.Omega.{arith}
-use lib.Bits.{bitOr, or-shr, or-mod}
-use lib.Dec.{T, eqb, ltb, leb·zero, leb·suc-zero, leb·suc-suc}
+use lib.Bits.{bitAnd, bitOr, and-shr, and-mod, and-le-l, or-shr, or-mod}
+use lib.Dec.{T, eqb, ltb, leb·zero, leb·suc-zero, leb·suc-suc, eqb·zero-suc, eqb·suc-zero, eqb·suc-suc, eqb→eq}
 use lib.Pow.{pow-pos, pow-mono}
-use Rattle.std.proofs.shelf.Bits.{shr-shr, le-div, mod-below, mod-pow-add, div-mul-add, mod-mul-add}
-use Rattle.std.proofs.shelf.Tests.{cases-lt, lt-ltb, le-ltb, ne-eqb}
-use Rattle.quorum.specs.Seats.{held, Holds, union, everyone, everyone-but}
+use Rattle.std.proofs.shelf.Bits.{shr-shr, shr-below, shl-shr, le-div, mod-below, mod-pow-add, div-mul-add, mod-mul-add}
+use Rattle.std.proofs.shelf.Tests.{cases-lt, eq-eqb, lt-ltb, le-ltb, ne-eqb}
+use Rattle.quorum.specs.Seats.{held, Holds, with-seat, subset, union, everyone, everyone-but}
 
 -- seat s + 1 of a set is seat s of its upper digits
 pub held-suc : (s q : ℕ) → held (suc s) q ≡ held s (q / 2)
@@ -39,6 +39,71 @@ pub held-union : (s p q : ℕ) → held s (union p q) ≡ (held s p || held s q)
 held-union s p q =
     ap (λ x. eqb (x % 2) 1) (or-shr p q s) ∙ ap (λ x. eqb x 1) (or-mod (p / 2 ^ s) (q / 2 ^ s) 1)
     ∙ or-digits (p / 2 ^ s % 2) (q / 2 ^ s % 2) (digit (p / 2 ^ s)) (digit (q / 2 ^ s))
+
+and-digits : (a b : ℕ) → (a ≡ 0) ⊎ (a ≡ 1) → (b ≡ 0) ⊎ (b ≡ 1) → eqb (bitAnd a b) 1 ≡ (eqb a 1 && eqb b 1)
+and-digits a b (inl e) (inl f) = rw e
+and-digits a b (inl e) (inr f) = rw e
+and-digits a b (inr e) (inl f) = rw (e, f)
+and-digits a b (inr e) (inr f) = rw (e, f)
+
+held-both : (s p q : ℕ) → held s (bitAnd p q) ≡ (held s p && held s q)
+held-both s p q =
+    ap (λ x. eqb (x % 2) 1) (and-shr p q s) ∙ ap (λ x. eqb x 1) (and-mod (p / 2 ^ s) (q / 2 ^ s) 1)
+    ∙ and-digits (p / 2 ^ s % 2) (q / 2 ^ s % 2) (digit (p / 2 ^ s)) (digit (q / 2 ^ s))
+
+both-true : (a b : Bool) → T (a && b) → T b
+both-true true b t = t
+both-true false b t = absurd t
+
+absorb : (a b : Bool) → (T a → T b) → (a && b) ≡ a
+absorb true true f = refl
+absorb true false f = absurd (f tt)
+absorb false b f = refl
+
+-- the set of one seat
+pub held-one : (s t : ℕ) → held s (2 ^ t) ≡ eqb s t
+held-one zero zero = refl
+held-one zero (suc t) =
+    held-zero (2 ^ suc t) ∙ ap (λ x. eqb (x % 2) 1) (pow-suc 2 t) ∙ ap (λ x. eqb x 1) (mul-mod-left (2 ^ t) 2)
+    ∙ sym (eqb·zero-suc t)
+held-one (suc s) zero = held-suc s 1 ∙ held-none s ∙ sym (eqb·suc-zero s)
+held-one (suc s) (suc t) =
+    held-suc s (2 ^ suc t) ∙ ap (λ x. held s (x / 2)) (pow-suc 2 t) ∙ ap (held s) (shl-shr (2 ^ t) 1) ∙ held-one s t
+    ∙ sym (eqb·suc-suc s t)
+
+lowest : (p : ℕ) → p % 2 ≡ cond (held 0 p) 1 0
+lowest p =
+    elim (digit p) [
+      | inl e ↦ e ∙ sym (ap (λ b. cond b 1 0) (held-zero p ∙ ap (λ x. eqb x 1) e))
+      | inr e ↦ e ∙ sym (ap (λ b. cond b 1 0) (held-zero p ∙ ap (λ x. eqb x 1) e))
+    ]
+
+half-below : (k p : ℕ) → p < 2 ^ suc k → p / 2 < 2 ^ k
+half-below k p h = shr-below p k 1 (subst (λ x. p < 2 ^ x) (sym (add-one k)) h)
+
+-- Sets that hold the same seats are the same.
+pub same-seats : (k p q : ℕ) → p < 2 ^ k → q < 2 ^ k → ((s : ℕ) → held s p ≡ held s q) → p ≡ q
+same-seats zero p q f g e = omega arith
+same-seats (suc k) p q f g e =
+    let upper = same-seats k (p / 2) (q / 2) (half-below k p f) (half-below k q g) (λ s. sym (held-suc s p) ∙ e (suc s) ∙ held-suc s q) in
+    let low : p % 2 ≡ q % 2 = lowest p ∙ ap (λ b. cond b 1 0) (e 0) ∙ sym (lowest q) in
+    omega (arith, upper, low)
+
+-- whether one set holds every seat of another, told by seats
+pub subset-means : (p q : ℕ) → T (subset p q) → (s : ℕ) → Holds s p → Holds s q
+subset-means p q t s h =
+    let same = eqb→eq (bitAnd p q) p t in
+    both-true (held s p) (held s q) (subst T (sym (ap (held s) same) ∙ held-both s p q) h)
+
+pub subset-made : (k p q : ℕ) → p < 2 ^ k → ((s : ℕ) → Holds s p → Holds s q) → T (subset p q)
+subset-made k p q f g =
+    let same = same-seats k (bitAnd p q) p (lt-of-le-of-lt (and-le-l p q) f) f (λ s. held-both s p q ∙ absorb (held s p) (held s q) (g s)) in
+    subst T (sym (eq-eqb (bitAnd p q) p same)) tt
+
+-- a set with a seat added
+pub held-with : (s t q : ℕ) → t < 64 → held s (with-seat t q) ≡ (held s q || eqb s t)
+held-with s t q h =
+    ap (λ b. held s (cond b (union q (2 ^ t)) q)) (lt-ltb t 64 h) ∙ held-union s q (2 ^ t) ∙ ap (λ b. held s q || b) (held-one s t)
 
 -- a set is below 2 ^ n exactly where it has no digits from n on
 pub no-upper-digits : (n q : ℕ) → eqb (q / 2 ^ n) 0 ≡ ltb q (2 ^ n)

@@ -4,7 +4,7 @@
 use mathlib.Core.Bool.{Bool, cond}
 use mathlib.Core.List.{List, [], _∷_}
 use Prim.Native.Nat.{ℕ, suc, _+_, _-_, _/_, _%_, _^_}
-use lib.Bits.{bitOr}
+use lib.Bits.{bitAnd, bitOr}
 use lib.Count.{ones}
 use lib.Dec.{T, eqb, ltb}
 
@@ -21,6 +21,14 @@ within n q = ltb q (2 ^ n)
 
 abbrev pub union : ℕ → ℕ → ℕ
 union p q = bitOr p q
+
+-- the set q with seat s added; there is no seat past 63
+abbrev pub with-seat : ℕ → ℕ → ℕ
+with-seat s q = cond (ltb s 64) (union q (2 ^ s)) q
+
+-- whether q holds every seat that p holds
+abbrev pub subset : ℕ → ℕ → Bool
+subset p q = eqb (bitAnd p q) p
 
 -- all of the n seats
 abbrev pub everyone : ℕ → ℕ

@@ -1,7 +1,7 @@
 // Sets of seats.
 ghost use mathlib.Core.Path.{_≡_};
 ghost use Prim.Native.Nat.{min};
-ghost use Rattle.quorum.specs.Seats.{held, within, union, everyone, everyone-but, how-many};
+ghost use Rattle.quorum.specs.Seats.{held, within, with-seat, subset, union, everyone, everyone-but, how-many};
 
 // A set of the seats 0 to 63: seat s is the bit worth 2^s.
 #[derive(Clone, Copy, Debug, PartialEq, Eq)]
@@ -32,6 +32,25 @@ impl SeatSet {
         ensures { λ r. ⌜ r ≡ within n (self .bits) ⌝ }
     {
         n >= 64 || self.bits >> n == 0
+    }
+
+    // The set with a seat added; there is no seat past 63.
+    pub fn with(self, seat: u8) -> SeatSet
+        ensures { λ r. ⌜ r .bits ≡ with-seat seat (self .bits) ⌝ }
+    {
+        if seat >= 64 {
+            return self;
+        }
+        SeatSet {
+            bits: self.bits | (1 << seat),
+        }
+    }
+
+    // Whether the other set holds every seat of this one.
+    pub fn is_subset(self, other: SeatSet) -> bool
+        ensures { λ r. ⌜ r ≡ subset (self .bits) (other .bits) ⌝ }
+    {
+        self.bits & other.bits == self.bits
     }
 
     // The seats of either set.

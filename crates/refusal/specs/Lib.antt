@@ -1,3 +1,4 @@
 pub mod Numbers
 pub mod Outcomes
+pub mod Reasons
 pub mod Sentences

@@ -34,8 +34,6 @@ pub trait Rotation {
 }
 
 // What is told of a next turn can only be one thing.
-pub fn next_turn_is_one() -> u8
+pub fn next_turn_is_one()
     ensures { λ _. ⌜ One-next-turn ⌝ }
-{
-    0
-}
+{}

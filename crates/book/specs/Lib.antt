@@ -1,0 +1,5 @@
+pub mod Admission
+pub mod Changes
+pub mod Kinds
+pub mod Known
+pub mod Pages

@@ -1,0 +1,64 @@
+// What a book holds.
+ghost use mathlib.Core.Path.{_≡_};
+ghost use Rattle.book.specs.Kinds.{is-slow};
+use quorum::seats::SeatSet;
+
+// How a block was justified. The first block needs no justification.
+#[derive(Clone, Copy, Debug)]
+pub enum Kind {
+    First,
+    Fast,
+    Slow,
+}
+
+impl Kind {
+    pub fn is_slow(self) -> bool
+        ensures { λ r. ⌜ r ≡ is-slow self ⌝ }
+    {
+        match self {
+            Kind::Slow => true,
+            Kind::First | Kind::Fast => false,
+        }
+    }
+}
+
+// One proposal. Blocks are known by their numbers, in the order in which they entered; block 0 is the first.
+#[derive(Clone, Copy)]
+pub struct Block {
+    pub view: u32,
+    // the block that it stands on
+    pub parent: u32,
+    pub payload: u64,
+    // the seat that proposed it, the leader of its view
+    pub maker: u8,
+    // how many blocks it stands on, itself left out
+    pub height: u32,
+    pub kind: Kind,
+    // the seats that its maker heard from
+    pub heard: SeatSet,
+    // what each heard seat reported to a slow block, by seat
+    pub reports: [u32; 64],
+    // the block that its certificate is for
+    pub certificate: u32,
+    // the latest block that it shows to be committed
+    pub commit: u32,
+    // the seats that voted for it
+    pub voters: SeatSet,
+}
+
+// What a seat says on entering a view: the last block that it voted for.
+#[derive(Clone, Copy)]
+pub struct Letter {
+    pub seat: u8,
+    pub view: u32,
+    pub block: u32,
+}
+
+// What a leader asks to have entered.
+#[derive(Clone, Copy)]
+pub struct Proposal {
+    pub view: u32,
+    pub parent: u32,
+    pub payload: u64,
+    pub heard: SeatSet,
+}

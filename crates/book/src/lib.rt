@@ -1,0 +1,8 @@
+// The book: blocks, letters, and what may enter.
+mod admission;
+pub mod block;
+mod certificate;
+mod changes;
+mod letters;
+pub mod pages;
+mod walks;

@@ -1,0 +1,63 @@
+-- What a reply tells of the reason behind it.
+-- Assumes nothing.
+use mathlib.Core.Path.{_≡_, refl, sym, ap, _∙_}
+use mathlib.Core.Bool.{Bool, true, false, cond}
+use mathlib.Core.List.{List, [], _∷_, _++_}
+use Prim.Native.Nat.{ℕ}
+use native.Mathlib.Omega.{arith}
+use Rattle.std.specs.declared.result.Result.{Result}
+use Rattle.std.specs.declared.result.Result.the-variants.{Ok, Err}
+use Rattle.refusal.specs.Reasons.{Reason, NoneApplies, replied}
+use Rattle.refusal.specs.declared.Refusal.{Refusal}
+
+module _ {X : Type 0} where
+  pub ok-not-err : (r : Result X Refusal) (x : X) (e : Refusal) → r ≡ Ok x → r ≡ Err e → ⊥
+  ok-not-err r x e p q = let z : _≡_ {A = ℕ} 0 1 = cc in omega arith
+
+  -- one reason, and what is given where it does not apply
+  pub told-err : (b : Bool) (e f : Refusal) (x : X) → Err f ≡ cond b (Err e) (Ok x) → (b ≡ true) × (f ≡ e)
+  told-err true e f x p = (refl, cc)
+  told-err false e f x p = absurd (ok-not-err (Ok x) x f refl (sym p))
+
+  pub told-ok : (b : Bool) (e : Refusal) (y x : X) → Ok y ≡ cond b (Err e) (Ok x) → (b ≡ false) × (y ≡ x)
+  told-ok true e y x p = absurd (ok-not-err (Err e) y e (sym p) refl)
+  told-ok false e y x p = (refl, cc)
+
+-- A reply to a list of reasons.
+
+module _ {X : Type 0} where
+  -- the first reason of a list does not apply where the list lets something through
+  pub first-passed : (r : Reason) (rs : List Reason) (z x : X) → Ok z ≡ replied (r ∷ rs) x → (r .0 ≡ false) × (Ok z ≡ replied rs x)
+  first-passed r rs z x p = split (r .0) p
+    where
+      split : (b : Bool) → Ok z ≡ cond b (Err (r .1)) (replied rs x) → (b ≡ false) × (Ok z ≡ replied rs x)
+      split true q = absurd (ok-not-err (Err (r .1)) z (r .1) (sym q) refl)
+      split false q = (refl, q)
+
+  -- then no reason applies
+  pub none-applies : (rs : List Reason) (z x : X) → Ok z ≡ replied rs x → NoneApplies rs
+  none-applies [] z x p = tt
+  none-applies (r ∷ rs) z x p = let f = first-passed r rs z x p in (f .0, none-applies rs z x (f .1))
+
+  -- what is let through is what was offered
+  pub passed-value : (rs : List Reason) (z x : X) → Ok z ≡ replied rs x → z ≡ x
+  passed-value [] z x p = cc
+  passed-value (r ∷ rs) z x p = passed-value rs z x (first-passed r rs z x p .1)
+
+module _ {X Y : Type 0} where
+  -- more reasons behind a list that lets something through, or that refuses
+  pub replied-past : (rs qs : List Reason) (z x : X) (y : Y) → Ok z ≡ replied rs x → replied (rs ++ qs) y ≡ replied qs y
+  replied-past [] qs z x y p = refl
+  replied-past (r ∷ rs) qs z x y p =
+      let f = first-passed r rs z x p in
+      ap (λ b. cond b (Err (r .1)) (replied (rs ++ qs) y)) (f .0) ∙ replied-past rs qs z x y (f .1)
+
+  pub replied-stop : (rs qs : List Reason) (e : Refusal) (x : X) (y : Y) → Err e ≡ replied rs x → replied (rs ++ qs) y ≡ Err e
+  replied-stop [] qs e x y p = absurd (ok-not-err (Ok x) x e refl (sym p))
+  replied-stop (r ∷ rs) qs e x y p = split (r .0) p (replied-stop rs qs e x y)
+    where
+      split :
+          (b : Bool) → Err e ≡ cond b (Err (r .1)) (replied rs x) → (Err e ≡ replied rs x → replied (rs ++ qs) y ≡ Err e) →
+          cond b (Err (r .1)) (replied (rs ++ qs) y) ≡ Err e
+      split true q rest = let same : e ≡ r .1 = cc in ap Err (sym same)
+      split false q rest = rest q
