@@ -5,9 +5,9 @@ use mathlib.Core.List.{List, [], _∷_, _++_}
 use mathlib.Core.Logic.{_⊎_, _≢_, inl, inr}
 use Prim.Native.Nat.{ℕ, zero, suc, _+_, _≤_, _<_}
 use native.Mathlib.Omega.{arith}
-use lib.ListN.{length, getD, set, replicate, length-set}
+use lib.ListN.{length, getD, set, length-set}
 use lib.Seq.{getD-set-same, getD-set-other}
-use Rattle.std.proofs.shelf.Lists.{getD-append-left, getD-push, getD-past, getD-replicate, length-push}
+use Rattle.std.proofs.shelf.Lists.{getD-append-left, getD-push, length-push}
 use Rattle.std.proofs.shelf.Tests.{cases-eq, cases-lt}
 use Rattle.std.specs.Of.Vec.{vec-items, vec-len}
 use Rattle.book.specs.Changes.{voted}
@@ -16,6 +16,7 @@ use Rattle.book.specs.Pages.{no-reports, genesis, at, letter-at}
 use Rattle.book.specs.declared.block.Block.{Block}
 use Rattle.book.specs.declared.block.Letter.{Letter}
 use Rattle.book.specs.declared.pages.Book.{Book}
+use Rattle.book.proofs.Views.{zeros}
 
 -- what the book's own invariant says
 pub known-of : (book : Book) → Known (vec-items (book .blocks)) (vec-items (book .letters))
@@ -148,11 +149,7 @@ module _ (bs : List Block) (ls : List Letter) (known : Known bs ls) where
 
 pub no-report : (s : ℕ) → getD no-reports s 0 ≡ 0
 unfolding no-reports
-no-report s =
-    elim (cases-lt s 64) [
-      | inl l ↦ getD-replicate 64 s 0 0 l
-      | inr g ↦ getD-past (replicate 64 0) s 0 g
-    ]
+no-report s = zeros 64 s
 
 -- the book of the first block alone
 module _ (n : ℕ) where

@@ -3,3 +3,4 @@ pub mod Changes
 pub mod Kinds
 pub mod Known
 pub mod Pages
+pub mod Questions

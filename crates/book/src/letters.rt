@@ -44,7 +44,7 @@ impl Book {
     }
 
     // What a seat reports to a block of a view; nothing is asked of a seat that is not heard.
-    fn report(&self, heard: SeatSet, view: u32, seat: u8) -> Result<u32, Refusal>
+    fn report_of(&self, heard: SeatSet, view: u32, seat: u8) -> Result<u32, Refusal>
         ensures { λ r. ⌜ r ≡ cond (no-letter (vec-items (now (self .entry) .letters)) (heard .bits) view seat) (Err HeardSeatSilent) (Ok (report-of (vec-items (now (self .entry) .letters)) (heard .bits) view seat)) ⌝ }
     {
         if !heard.holds(seat) {
@@ -62,7 +62,7 @@ impl Book {
     {
         let mut reports = [0; 64];
         for seat in 0..64 {
-            reports[seat as usize] = self.report(heard, view, seat)?;
+            reports[seat as usize] = self.report_of(heard, view, seat)?;
         }
         Ok(reports)
     }

@@ -5,4 +5,5 @@ mod certificate;
 mod changes;
 mod letters;
 pub mod pages;
+mod questions;
 mod walks;

@@ -1,0 +1,35 @@
+-- What is told of a block, where there is one.
+-- Assumes nothing.
+use mathlib.Core.Bool.{Bool, cond, _&&_}
+use mathlib.Core.List.{List, [], _∷_}
+use Prim.Native.Nat.{ℕ, max}
+use lib.Dec.{ltb}
+use lib.ListN.{length, getD}
+use Rattle.std.specs.declared.option.Option.{Option}
+use Rattle.std.specs.declared.option.Option.the-variants.{Some, None}
+use Rattle.quorum.specs.Seats.{held}
+use Rattle.book.specs.Kinds.{is-slow}
+use Rattle.book.specs.Pages.{at, stands}
+use Rattle.book.specs.declared.block.Block.{Block}
+
+-- a part of a block
+abbrev pub of-block : {X : Type 0} → (Block → X) → List Block → ℕ → Option X
+of-block f bs b = cond (ltb b (length bs)) (Some (f (at bs b))) None
+
+-- a part that the first block lacks
+abbrev pub of-later : {X : Type 0} → (Block → X) → List Block → ℕ → Option X
+of-later f bs b = cond (ltb 0 b && ltb b (length bs)) (Some (f (at bs b))) None
+
+-- what a seat reported to a slow block that heard it
+abbrev pub report-told : List Block → ℕ → ℕ → Option ℕ
+report-told bs b s =
+    cond (ltb b (length bs) && (is-slow (at bs b .kind) && held s (at bs b .heard .bits))) (Some (getD (at bs b .reports) s 0)) None
+
+-- whether one block stands on another, where both are there
+abbrev pub stands-told : List Block → ℕ → ℕ → Option Bool
+stands-told bs b c = cond (ltb b (length bs) && ltb c (length bs)) (Some (stands bs b c)) None
+
+-- the greatest view of a list of blocks
+abbrev pub highest-view : List Block → ℕ
+highest-view [] = 0
+highest-view (b ∷ bs) = max (b .view) (highest-view bs)
