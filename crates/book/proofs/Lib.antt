@@ -1,7 +1,12 @@
 pub mod Chains
 pub mod Entries
+pub mod Extends
 pub mod Growth
+pub mod Justify
+pub mod Keeps
+pub mod Named
 pub mod Ranks
+pub mod Reflect
 pub mod Reports
 pub mod Tests
 pub mod Views

@@ -10,7 +10,7 @@ use lib.Dec.{eqb, ltb}
 use lib.ListN.{length, getD}
 use Rattle.std.proofs.shelf.Counted.{getD-map-counting, length-map-counting}
 use Rattle.std.proofs.shelf.Lists.{getD-past}
-use Rattle.std.proofs.shelf.Tests.{and-parts, and-right, both-ways, cases-bool, cases-lt, eqb-true, le-ltb, or-from, or-cases, not-false}
+use Rattle.std.proofs.shelf.Tests.{and-parts, and-from, and-right, both-ways, cases-bool, cases-eq, cases-lt, eqb-true, eq-eqb, le-ltb, or-from, or-cases, not-false}
 use Rattle.std.specs.Iters.{counting}
 use Rattle.std.specs.Options.{isSome, valueOr}
 use Rattle.std.specs.declared.option.Option.{Option}
@@ -19,6 +19,7 @@ use Rattle.quorum.specs.Seats.{held}
 use Rattle.book.specs.Admission.{any-below, last-below, written, latest, no-letter, report-of, reports-of, silent, reports-it, reports-higher, outranks, certificate-view}
 use Rattle.book.specs.Known.{Known}
 use Rattle.book.specs.Pages.{at, letter-at}
+use Rattle.book.specs.Rules.{LatestLetter}
 use Rattle.book.specs.declared.block.Block.{Block}
 use Rattle.book.specs.declared.block.Letter.{Letter}
 use Rattle.book.proofs.Tests.{any-below-found}
@@ -43,26 +44,84 @@ unfolding any-below
 any-below-same p q zero f = refl
 any-below-same p q (suc n) f = ap₂ _||_ (f n (omega arith)) (any-below-same p q n (λ k h. f k (omega arith)))
 
--- what a search from the last place down has found
-pub last-is : (p : ℕ → Bool) (f : ℕ → ℕ) (n x : ℕ) → last-below p f n ≡ Some x → (i : ℕ) × (i < n) × (p i ≡ true) × (f i ≡ x)
+-- what a search from the last place down has found: a place that passes, and none after it does
+pub last-is :
+    (p : ℕ → Bool) (f : ℕ → ℕ) (n x : ℕ) → last-below p f n ≡ Some x →
+    (i : ℕ) × (i < n) × (p i ≡ true) × (f i ≡ x) × ((j : ℕ) → i < j → j < n → p j ≡ false)
 unfolding last-below
 last-is p f zero x e = let z : _≡_ {A = ℕ} 0 1 = cc in absurd (omega arith)
 last-is p f (suc n) x e =
     elim (cases-bool (p n)) [
-      | inl t ↦ (n, omega arith, t, found (ap (λ b. cond b (Some (f n)) (last-below p f n)) (sym t) ∙ e))
+      | inl t ↦ (n, omega arith, t, found (ap (λ b. cond b (Some (f n)) (last-below p f n)) (sym t) ∙ e), λ j l h. absurd (omega arith))
       | inr t ↦
-          let (i, h, pass, is) = last-is p f n x (ap (λ b. cond b (Some (f n)) (last-below p f n)) (sym t) ∙ e) in
-          (i, omega arith, pass, is)
+          let (i, h, pass, is, none) = last-is p f n x (ap (λ b. cond b (Some (f n)) (last-below p f n)) (sym t) ∙ e) in
+          (i, omega arith, pass, is, λ j l k. elim (cases-eq j n) [ inl same ↦ ap p same ∙ t | inr other ↦ none j l (omega arith) ])
     ]
   where
     found : Some (f n) ≡ Some x → f n ≡ x
     found q = cc
 
+-- and such a place is what it finds
+pub last-at :
+    (p : ℕ → Bool) (f : ℕ → ℕ) (n i : ℕ) → i < n → p i ≡ true → ((j : ℕ) → i < j → j < n → p j ≡ false) → last-below p f n ≡ Some (f i)
+unfolding last-below
+last-at p f zero i h t none = absurd (omega arith)
+last-at p f (suc n) i h t none =
+    elim (cases-eq i n) [
+      | inl same ↦ ap (λ b. cond b (Some (f n)) (last-below p f n)) (ap p (sym same) ∙ t) ∙ ap (λ k. Some (f k)) (sym same)
+      | inr other ↦
+          ap (λ b. cond b (Some (f n)) (last-below p f n)) (none n (omega arith) (omega arith))
+          ∙ last-at p f n i (omega arith) t (λ j l k. none j l (omega arith))
+    ]
+
+-- a search that finds nothing passes no place
+pub last-nowhere : (p : ℕ → Bool) (f : ℕ → ℕ) (n : ℕ) → last-below p f n ≡ None → (k : ℕ) → k < n → p k ≡ true → ⊥
+unfolding last-below
+last-nowhere p f zero z k h t = omega arith
+last-nowhere p f (suc n) z k h t =
+    elim (cases-bool (p n)) [
+      | inl here ↦
+          let found : Some (f n) ≡ None = ap (λ b. cond b (Some (f n)) (last-below p f n)) (sym here) ∙ z in
+          let w : _≡_ {A = ℕ} 0 1 = cc in
+          omega arith
+      | inr below ↦
+          elim (cases-eq k n) [
+            | inl same ↦ both-ways (p n) below (ap p (sym same) ∙ t)
+            | inr other ↦ last-nowhere p f n (ap (λ b. cond b (Some (f n)) (last-below p f n)) (sym below) ∙ z) k (omega arith) t
+          ]
+    ]
+
+-- the latest letter, by the search
+pub latest-letter : (ls : List Letter) (s v b : ℕ) → latest ls s v ≡ Some b → LatestLetter ls s v b
+latest-letter ls s v b e =
+    let (i, h, wrote, names, none) = last-is _ _ (length ls) b e in
+    let parts = and-parts (eqb (letter-at ls i .seat) s) (eqb (letter-at ls i .view) v) wrote in
+    record {
+      number = i;
+      held = h;
+      from = eqb-true _ _ (parts .0);
+      for-view = eqb-true _ _ (parts .1);
+      names = names;
+      none-later = λ j l k f g. both-ways (written (letter-at ls j) s v) (none j l k) (and-from _ _ (eq-eqb _ _ f) (eq-eqb _ _ g));
+    }
+
+pub letter-latest : (ls : List Letter) (s v b : ℕ) → LatestLetter ls s v b → latest ls s v ≡ Some b
+letter-latest ls s v b r =
+    last-at _ _ (length ls) (r .number) (r .held) (and-from _ _ (eq-eqb _ _ (r .from)) (eq-eqb _ _ (r .for-view)))
+    (λ j l k.
+    elim (cases-bool (written (letter-at ls j) s v)) [
+      | inl t ↦
+          let parts = and-parts (eqb (letter-at ls j .seat) s) (eqb (letter-at ls j .view) v) t in
+          absurd (r .none-later j l k (eqb-true _ _ (parts .0)) (eqb-true _ _ (parts .1)))
+      | inr f ↦ f
+    ])
+    ∙ ap Some (r .names)
+
 module _ (bs : List Block) (ls : List Letter) (known : Known bs ls) (heard v : ℕ) where
   -- what a letter of the view names is in the book, and earlier
   pub latest-held : (s b : ℕ) → latest ls s v ≡ Some b → (b < length bs) × (at bs b .view < v)
   latest-held s b e =
-      let (i, h, wrote, names) = last-is _ _ (length ls) b e in
+      let (i, h, wrote, names, none) = last-is _ _ (length ls) b e in
       let for-view = eqb-true _ _ (and-parts (eqb (letter-at ls i .seat) s) (eqb (letter-at ls i .view) v) wrote .1) in
       (omega (arith, known .letters-known i h, names), omega (arith, known .letters-later i h, ap (λ x. at bs x .view) names, for-view))
 
@@ -95,6 +154,11 @@ module _ (bs : List Block) (ls : List Letter) (known : Known bs ls) (heard v : �
       pick true None e f = absurd (both-ways true f refl)
       pick true (Some x) e f = refl
       pick false o e f = absurd (both-ways false refl e)
+
+  -- what a heard seat's latest letter names is what it reports
+  pub heard-report : (s b : ℕ) → held s heard ≡ true → s < 64 → latest ls s v ≡ Some b → getD (reports-of ls heard v) s 0 ≡ b
+  heard-report s b h l e =
+      report-at s l ∙ ap (λ t. cond t (valueOr (latest ls s v) 0) 0) h ∙ ap (λ o. valueOr o 0) e
 
   -- the first block outranks nothing
   first-lowest : (y : ℕ) → outranks bs 0 y ≡ false

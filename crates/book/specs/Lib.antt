@@ -4,3 +4,4 @@ pub mod Kinds
 pub mod Known
 pub mod Pages
 pub mod Questions
+pub mod Rules

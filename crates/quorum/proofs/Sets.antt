@@ -11,7 +11,7 @@ use lib.Bits.{bitAnd, bitOr, and-shr, and-mod, and-le-l, or-shr, or-mod}
 use lib.Dec.{T, eqb, ltb, leb·zero, leb·suc-zero, leb·suc-suc, eqb·zero-suc, eqb·suc-zero, eqb·suc-suc, eqb→eq}
 use lib.Pow.{pow-pos, pow-mono}
 use Rattle.std.proofs.shelf.Bits.{shr-shr, shr-below, shl-shr, le-div, mod-below, mod-pow-add, div-mul-add, mod-mul-add}
-use Rattle.std.proofs.shelf.Tests.{cases-lt, eq-eqb, lt-ltb, le-ltb, ne-eqb}
+use Rattle.std.proofs.shelf.Tests.{cases-lt, or-left, or-right, or-cases, eqb-true, eq-eqb, lt-ltb, le-ltb, ne-eqb}
 use Rattle.quorum.specs.Seats.{held, Holds, with-seat, subset, union, everyone, everyone-but}
 
 -- seat s + 1 of a set is seat s of its upper digits
@@ -104,6 +104,34 @@ subset-made k p q f g =
 pub held-with : (s t q : ℕ) → t < 64 → held s (with-seat t q) ≡ (held s q || eqb s t)
 held-with s t q h =
     ap (λ b. held s (cond b (union q (2 ^ t)) q)) (lt-ltb t 64 h) ∙ held-union s q (2 ^ t) ∙ ap (λ b. held s q || b) (held-one s t)
+
+true-from : (b : Bool) → T b → b ≡ true
+true-from true t = refl
+true-from false t = absurd t
+
+-- what a set holds, it holds with a seat added
+pub with-keeps : (s t q : ℕ) → Holds s q → Holds s (with-seat t q)
+with-keeps s t q h =
+    elim (cases-lt t 64) [
+      | inl l ↦ subst T (sym (held-with s t q l ∙ or-left (held s q) (eqb s t) (true-from (held s q) h))) tt
+      | inr g ↦ subst (Holds s) (sym (ap (λ b. cond b (union q (2 ^ t)) q) (le-ltb t 64 g))) h
+    ]
+
+-- and a seat that was not held before is the one that was added
+pub with-adds : (s t q : ℕ) → Holds s (with-seat t q) → Holds s q ⊎ (s ≡ t)
+with-adds s t q h =
+    elim (cases-lt t 64) [
+      | inl l ↦
+          elim (or-cases (held s q) (eqb s t) (sym (held-with s t q l) ∙ true-from (held s (with-seat t q)) h)) [
+            | inl old ↦ inl (subst T (sym old) tt)
+            | inr new ↦ inr (eqb-true s t new)
+          ]
+      | inr g ↦ inl (subst (Holds s) (ap (λ b. cond b (union q (2 ^ t)) q) (le-ltb t 64 g)) h)
+    ]
+
+-- a seat that was added is held
+pub with-holds : (t q : ℕ) → t < 64 → Holds t (with-seat t q)
+with-holds t q l = subst T (sym (held-with t t q l ∙ or-right (held t q) (eqb t t) (eq-eqb t t refl))) tt
 
 -- a set is below 2 ^ n exactly where it has no digits from n on
 pub no-upper-digits : (n q : ℕ) → eqb (q / 2 ^ n) 0 ≡ ltb q (2 ^ n)

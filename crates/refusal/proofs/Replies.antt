@@ -39,6 +39,11 @@ module _ {X : Type 0} where
   none-applies [] z x p = tt
   none-applies (r ∷ rs) z x p = let f = first-passed r rs z x p in (f .0, none-applies rs z x (f .1))
 
+  -- and where none does, it lets through
+  pub none-refused : (rs : List Reason) (x : X) → NoneApplies rs → replied rs x ≡ Ok x
+  none-refused [] x n = refl
+  none-refused (r ∷ rs) x n = ap (λ b. cond b (Err (r .1)) (replied rs x)) (n .0) ∙ none-refused rs x (n .1)
+
   -- what is let through is what was offered
   pub passed-value : (rs : List Reason) (z x : X) → Ok z ≡ replied rs x → z ≡ x
   passed-value [] z x p = cc
