@@ -8,7 +8,7 @@ use Prim.Native.Nat.{ℕ, _+_, _≤_, _<_}
 use native.Mathlib.Omega.{arith}
 use lib.Dec.{eqb, ltb}
 use lib.ListN.{length, getD}
-use Rattle.std.proofs.shelf.Tests.{and-parts, eq-eqb, not-false, leb-false, cases-bool, cond-true, cond-false}
+use Rattle.std.proofs.shelf.Tests.{and-parts, eq-eqb, ne-eqb, not-false, leb-false, cases-bool, cond-true, cond-false}
 use Rattle.std.specs.declared.option.Option.{Option}
 use Rattle.std.specs.declared.option.Option.the-variants.{Some, None}
 use Rattle.std.specs.declared.result.Result.{Result}
@@ -95,6 +95,24 @@ module _ (d : Design) (bs : List Block) (p : Proposal) where
       replied-past (shared-reasons d bs p) fast-rest maker (d .leads (p .view)) (length bs) e
       ∙ ap (λ b. cond (not b) (Err HeardSeatSilent) (cond (not (eqb (at bs (p .parent) .view + 1) (p .view))) (Err ParentUnfit) (Ok (length bs)))) voted
       ∙ ap (λ b. cond (not b) (Err ParentUnfit) (Ok (length bs))) (eq-eqb (at bs (p .parent) .view + 1) (p .view) next)
+
+  pub fast-unvoted :
+      (maker : ℕ) → Ok maker ≡ replied (shared-reasons d bs p) (d .leads (p .view)) →
+      subset (p .heard .bits) (at bs (p .parent) .voters .bits) ≡ false → fast-reply d bs p ≡ Err HeardSeatSilent
+  unfolding fast-rest
+  fast-unvoted maker e voted =
+      replied-past (shared-reasons d bs p) fast-rest maker (d .leads (p .view)) (length bs) e
+      ∙ ap (λ b. cond (not b) (Err HeardSeatSilent) (cond (not (eqb (at bs (p .parent) .view + 1) (p .view))) (Err ParentUnfit) (Ok (length bs)))) voted
+
+  pub fast-misplaced :
+      (maker : ℕ) → Ok maker ≡ replied (shared-reasons d bs p) (d .leads (p .view)) →
+      subset (p .heard .bits) (at bs (p .parent) .voters .bits) ≡ true → (at bs (p .parent) .view + 1 ≡ p .view → ⊥) →
+      fast-reply d bs p ≡ Err ParentUnfit
+  unfolding fast-rest
+  fast-misplaced maker e voted other =
+      replied-past (shared-reasons d bs p) fast-rest maker (d .leads (p .view)) (length bs) e
+      ∙ ap (λ b. cond (not b) (Err HeardSeatSilent) (cond (not (eqb (at bs (p .parent) .view + 1) (p .view))) (Err ParentUnfit) (Ok (length bs)))) voted
+      ∙ ap (λ b. cond (not b) (Err ParentUnfit) (Ok (length bs))) (ne-eqb (at bs (p .parent) .view + 1) (p .view) other)
 
   pub fast-screened-out : (e : Refusal) → Err e ≡ replied (shared-reasons d bs p) (d .leads (p .view)) → fast-reply d bs p ≡ Err e
   unfolding fast-rest

@@ -1,3 +1,4 @@
+pub mod Admitted
 pub mod Chains
 pub mod Entries
 pub mod Extends

@@ -4,7 +4,8 @@ ghost use Prim.Native.Nat.{_<_};
 ghost use lib.ListN.{length, getD};
 ghost use Rattle.std.specs.Of.Vec.{vec-items, vec-len};
 ghost use Rattle.refusal.specs.Reasons.{replied};
-ghost use Rattle.book.specs.Admission.{design, has-view, shared-reasons, entered, reports-of, unfit, fast-reply, fast-blocks, slow-reply, slow-blocks};
+ghost use Rattle.book.specs.Promises.{FastAdmission, SlowAdmission};
+ghost use Rattle.book.specs.Admission.{design, has-view, shared-reasons, entered, reports-of, unfit};
 use crate::block::Block;
 use crate::block::Kind;
 use crate::block::Proposal;
@@ -95,9 +96,7 @@ impl Book {
         open_set: SeatSet,
         proposal: &Proposal,
     ) -> Result<u32, Refusal>
-        ensures reply { λ r. ⌜ r ≡ fast-reply (design (R·QuorumRule .seats (now (rule .entry))) (R·QuorumRule .quorum (now (rule .entry))) (T·Rotation .leads (now (rotation .entry))) («open_set» .bits)) (vec-items (now (self .entry) .blocks)) (now (proposal .entry)) ⌝ }
-        ensures blocks { λ _. ⌜ vec-items (now (self .exit) .blocks) ≡ fast-blocks (design (R·QuorumRule .seats (now (rule .entry))) (R·QuorumRule .quorum (now (rule .entry))) (T·Rotation .leads (now (rotation .entry))) («open_set» .bits)) (vec-items (now (self .entry) .blocks)) (now (proposal .entry)) ⌝ }
-        ensures letters { λ _. ⌜ vec-items (now (self .exit) .letters) ≡ vec-items (now (self .entry) .letters) ⌝ }
+        ensures { λ r. ⌜ FastAdmission (design (R·QuorumRule .seats (now (rule .entry))) (R·QuorumRule .quorum (now (rule .entry))) (T·Rotation .leads (now (rotation .entry))) («open_set» .bits)) (vec-items (now (self .entry) .blocks)) (vec-items (now (self .entry) .letters)) (now (proposal .entry)) r (vec-items (now (self .exit) .blocks)) (vec-items (now (self .exit) .letters)) ⌝ }
     {
         let maker = self.screen(rule, rotation, open_set, proposal)?;
         let parent = self.block(proposal.parent);
@@ -129,9 +128,7 @@ impl Book {
         open_set: SeatSet,
         proposal: &Proposal,
     ) -> Result<u32, Refusal>
-        ensures reply { λ r. ⌜ r ≡ slow-reply (design (R·QuorumRule .seats (now (rule .entry))) (R·QuorumRule .quorum (now (rule .entry))) (T·Rotation .leads (now (rotation .entry))) («open_set» .bits)) (vec-items (now (self .entry) .blocks)) (vec-items (now (self .entry) .letters)) (now (proposal .entry)) ⌝ }
-        ensures blocks { λ _. ⌜ vec-items (now (self .exit) .blocks) ≡ slow-blocks (design (R·QuorumRule .seats (now (rule .entry))) (R·QuorumRule .quorum (now (rule .entry))) (T·Rotation .leads (now (rotation .entry))) («open_set» .bits)) (vec-items (now (self .entry) .blocks)) (vec-items (now (self .entry) .letters)) (now (proposal .entry)) ⌝ }
-        ensures letters { λ _. ⌜ vec-items (now (self .exit) .letters) ≡ vec-items (now (self .entry) .letters) ⌝ }
+        ensures { λ r. ⌜ SlowAdmission (design (R·QuorumRule .seats (now (rule .entry))) (R·QuorumRule .quorum (now (rule .entry))) (T·Rotation .leads (now (rotation .entry))) («open_set» .bits)) (vec-items (now (self .entry) .blocks)) (vec-items (now (self .entry) .letters)) (now (proposal .entry)) r (vec-items (now (self .exit) .blocks)) (vec-items (now (self .exit) .letters)) ⌝ }
     {
         let maker = self.screen(rule, rotation, open_set, proposal)?;
         let reports = self.reports(proposal.heard, proposal.view)?;

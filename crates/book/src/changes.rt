@@ -5,6 +5,8 @@ ghost use Prim.Native.Nat.{_<_, min};
 ghost use lib.ListN.{length};
 ghost use Rattle.std.specs.Of.Vec.{vec-items, vec-len};
 ghost use Rattle.std.specs.Vec.{made};
+ghost use Rattle.book.specs.Admission.{Design};
+ghost use Rattle.book.specs.Rules.{WellMade};
 ghost use Rattle.book.specs.Changes.{vote-reply, vote-after, letter-reply, letter-after};
 ghost use Rattle.book.specs.Known.{Enters};
 ghost use Rattle.book.specs.Pages.{genesis};
@@ -21,7 +23,8 @@ use std::alloc::Global;
 impl Book {
     // A book of a cluster of n seats, with the first block and no letters. This alone can want memory.
     pub fn new(heap: Global, n: u8) -> Result<Book, AllocError>
-        ensures { λ r. ⌜ made r (λ b. (vec-items (b .blocks) ≡ genesis (min n 64) ∷ []) × (vec-items (b .letters) ≡ [])) ⌝ }
+        ensures pages { λ r. ⌜ made r (λ b. (vec-items (b .blocks) ≡ genesis (min n 64) ∷ []) × (vec-items (b .letters) ≡ [])) ⌝ }
+        ensures lawful { λ r. ⌜ made r (λ b. (d : Design) → WellMade d (vec-items (b .blocks))) ⌝ }
     {
         let mut blocks = Vec::with_capacity(heap, 256)?;
         let letters = Vec::with_capacity(heap, 512)?;
@@ -59,6 +62,7 @@ impl Book {
         ensures reply { λ r. ⌜ r ≡ vote-reply (vec-items (now (self .entry) .blocks)) seat block ⌝ }
         ensures blocks { λ _. ⌜ vec-items (now (self .exit) .blocks) ≡ vote-after (vec-items (now (self .entry) .blocks)) seat block ⌝ }
         ensures letters { λ _. ⌜ vec-items (now (self .exit) .letters) ≡ vec-items (now (self .entry) .letters) ⌝ }
+        ensures lawful { λ _. ⌜ ((d : Design) → WellMade d (vec-items (now (self .entry) .blocks)) → WellMade d (vec-items (now (self .exit) .blocks))) ⌝ }
     {
         if block as usize >= self.blocks.len() {
             return Err(Refusal::NoSuchBlock);

@@ -3,6 +3,7 @@ mod admission;
 pub mod block;
 mod certificate;
 mod changes;
+pub mod laws;
 mod letters;
 pub mod pages;
 mod questions;

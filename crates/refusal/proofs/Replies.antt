@@ -1,13 +1,17 @@
 -- What a reply tells of the reason behind it.
 -- Assumes nothing.
-use mathlib.Core.Path.{_≡_, refl, sym, ap, _∙_}
-use mathlib.Core.Bool.{Bool, true, false, cond}
+use mathlib.Core.Path.{_≡_, refl, sym, ap, subst, _∙_}
+use mathlib.Core.Bool.{Bool, true, false, cond, _&&_}
+use mathlib.Core.Logic.{inl, inr, ⊎-elim}
 use mathlib.Core.List.{List, [], _∷_, _++_}
-use Prim.Native.Nat.{ℕ}
+use Prim.Native.Nat.{ℕ, _≤_, _<_}
 use native.Mathlib.Omega.{arith}
+use lib.Dec.{T, ltb}
+use Rattle.std.proofs.shelf.Tests.{and-parts, both-ways, ltb-true}
 use Rattle.std.specs.declared.result.Result.{Result}
 use Rattle.std.specs.declared.result.Result.the-variants.{Ok, Err}
-use Rattle.refusal.specs.Reasons.{Reason, NoneApplies, replied}
+use Rattle.refusal.specs.Numbers.{number-of}
+use Rattle.refusal.specs.Reasons.{Reason, NoneApplies, Applies, Least, replied}
 use Rattle.refusal.specs.declared.Refusal.{Refusal}
 
 module _ {X : Type 0} where
@@ -66,3 +70,46 @@ module _ {X Y : Type 0} where
           cond b (Err (r .1)) (replied (rs ++ qs) y) ≡ Err e
       split true q rest = let same : e ≡ r .1 = cc in ap Err (sym same)
       split false q rest = rest q
+
+both-second : (a b : Bool) → T (a && b) → T b
+both-second true b t = t
+both-second false b t = absurd t
+
+-- A list of reasons that goes by their numbers gives the least that applies.
+
+abbrev pub ascending : ℕ → List Reason → Bool
+ascending n [] = true
+ascending n (r ∷ rs) = ltb n (number-of (r .1)) && ascending (number-of (r .1)) rs
+
+above-all : (n : ℕ) (rs : List Reason) → T (ascending n rs) → (e : Refusal) → Applies rs e → n < number-of e
+above-all n [] t e a = absurd a
+above-all n (r ∷ rs) t e a =
+    let parts = and-parts (ltb n (number-of (r .1))) (ascending (number-of (r .1)) rs) (true-from _ t) in
+    let first = ltb-true n (number-of (r .1)) (parts .0) in
+    ⊎-elim (λ here. omega (arith, first, ap number-of (here .1)))
+    (λ later. omega (arith, first, above-all (number-of (r .1)) rs (subst T (sym (parts .1)) tt) e later)) a
+  where
+    true-from : (b : Bool) → T b → b ≡ true
+    true-from true t = refl
+    true-from false t = absurd t
+
+pub replied-least : {X : Type 0} (n : ℕ) (rs : List Reason) (x : X) → T (ascending n rs) → Least rs (replied rs x)
+replied-least {X} n [] x t = λ e a. a
+replied-least {X} n (r ∷ rs) x t = split (r .0) refl (replied-least (number-of (r .1)) rs x rest)
+  where
+    rest : T (ascending (number-of (r .1)) rs)
+    rest = both-second (ltb n (number-of (r .1))) (ascending (number-of (r .1)) rs) t
+
+    above : (e : Refusal) → Applies rs e → number-of (r .1) ≤ number-of e
+    above e a = omega (arith, above-all (number-of (r .1)) rs rest e a)
+
+    split : (b : Bool) → r .0 ≡ b → Least rs (replied rs x) → Least (r ∷ rs) (cond b (Err (r .1)) (replied rs x))
+    split true is below = (inl (is, refl), λ f a. ⊎-elim (λ here. omega (arith, ap number-of (here .1))) (above f) a)
+    split false is below = widen (replied rs x) below
+      where
+        off : (e : Refusal) → Applies (r ∷ rs) e → Applies rs e
+        off e a = ⊎-elim (λ here. absurd (both-ways (r .0) is (here .0))) (λ later. later) a
+
+        widen : (q : Result X Refusal) → Least rs q → Least (r ∷ rs) q
+        widen (Ok y) l = λ e a. l e (off e a)
+        widen (Err y) l = (inr (l .0), λ f a. l .1 f (off f a))

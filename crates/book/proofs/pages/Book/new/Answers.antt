@@ -5,10 +5,12 @@ use native.Mathlib.Omega.{arith}
 use Rattle.std.specs.Of.Vec.{vec-items}
 use Rattle.quorum.specs.Seats.{everyone}
 use Rattle.book.specs.Known.{Known}
+use Rattle.book.specs.Rules.{WellMade}
 use Rattle.book.specs.Pages.{no-reports, genesis}
 use Rattle.book.specs.declared.block.Block.{Block}
 use Rattle.book.specs.declared.block.Kind.the-variants.{First}
 use Rattle.book.proofs.Growth.{known-first}
+use Rattle.book.proofs.Keeps.{well-first}
 use Rattle.book.proofs.pages.Book.new.Needs as need
 
 -- the first block, by the set of its voters
@@ -86,7 +88,10 @@ ghost-result c =
 
 pub returns : need.returns
 unfolding first no-reports
-returns c = (
-  one-block (c .args .n) (c .everyone .result .bits) _ _ (c .push-reserved .ensures .items) (c .in-Continue-blocks .ensures tt .made .0) (c .everyone .ensures),
-  c .in-Continue-letters .ensures tt .made .0,
-)
+returns c =
+    let n = c .args .n in
+    let pages = one-block n (c .everyone .result .bits) _ _ (c .push-reserved .ensures .items) (c .in-Continue-blocks .ensures tt .made .0) (c .everyone .ensures) in
+    record {
+      pages = (pages, c .in-Continue-letters .ensures tt .made .0);
+      lawful = λ d. subst (WellMade d) (sym pages) (well-first d (min n 64));
+    }

@@ -13,6 +13,7 @@ use Rattle.refusal.specs.declared.Refusal.the-variants.{HeardSeatSilent, Parent
 use Rattle.book.specs.Admission.{design, shared-reasons, entered, any-below, silent, reports-it, reports-higher, reports-of, slow-certificate}
 use Rattle.book.specs.Known.{Enters}
 use Rattle.book.specs.declared.block.Kind.the-variants.{Slow}
+use Rattle.book.proofs.Admitted.{slow-admission}
 use Rattle.book.proofs.Entries.{screened, can-enter, slow-accepted, slow-screened-out, slow-silent, slow-unfit, slow-grown, slow-kept, slow-certificate-held}
 use Rattle.book.proofs.Growth.{known-of}
 use Rattle.book.proofs.Reports.{reports-held, reported-earlier}
@@ -28,7 +29,10 @@ returns-in-Break-maker g c =
     let given = err-from-errBy (c .from-residual .result) (c .from-residual .ensures .1) in
     let e = c .in-Break-maker .field-0 .0 in
     let out = slow-screened-out d bs ls p e (c .in-Break-maker .ensures tt) in
-    record { reply = given .1 ∙ ap Err (given .2) ∙ sym out; blocks = sym (slow-kept d bs ls p e out); letters = refl }
+    slow-admission d bs ls (known-of book) (g .R·QuorumRule·met .lawful (c .args .rule .now)) p _ _ _
+    (given .1 ∙ ap Err (given .2) ∙ sym out)
+    (sym (slow-kept d bs ls p e out))
+    (refl)
 
 pub returns-in-Break-reports : need.returns-in-Break-reports
 returns-in-Break-reports g c =
@@ -42,7 +46,10 @@ returns-in-Break-reports g c =
     let given = err-from-errBy (c .from-residual-in-Break-reports .result) (c .from-residual-in-Break-reports .ensures .1) in
     let told = told-err (silent ls (p .heard .bits) (p .view)) HeardSeatSilent (c .in-Break-reports .field-0 .0) (reports-of ls (p .heard .bits) (p .view)) (c .in-Break-reports .ensures tt) in
     let out = slow-silent d bs ls p maker passed (told .0) in
-    record { reply = given .1 ∙ ap Err (given .2 ∙ told .1) ∙ sym out; blocks = sym (slow-kept d bs ls p HeardSeatSilent out); letters = refl }
+    slow-admission d bs ls (known-of book) (g .R·QuorumRule·met .lawful (c .args .rule .now)) p _ _ _
+    (given .1 ∙ ap Err (given .2 ∙ told .1) ∙ sym out)
+    (sym (slow-kept d bs ls p HeardSeatSilent out))
+    (refl)
 
 pub is-unfit-requires : need.is-unfit-requires
 is-unfit-requires g c κs =
@@ -70,7 +77,10 @@ returns-then-is-unfit g c =
     let reports = reports-of ls (p .heard .bits) (p .view) in
     let told = told-ok (silent ls (p .heard .bits) (p .view)) HeardSeatSilent (c .in-Continue-reports .reports) reports (c .in-Continue-reports .ensures tt) in
     let out = slow-unfit d bs ls p maker passed (told .0) (sym (c .is-unfit .ensures) ∙ c .if-is-unfit .taken) in
-    record { reply = sym out; blocks = sym (slow-kept d bs ls p ParentUnfit out); letters = refl }
+    slow-admission d bs ls (known-of book) (g .R·QuorumRule·met .lawful (c .args .rule .now)) p _ _ _
+    (sym out)
+    (sym (slow-kept d bs ls p ParentUnfit out))
+    (refl)
 
 pub proposed-block-requires : need.proposed-block-requires
 proposed-block-requires g c κs =
@@ -126,11 +136,9 @@ returns g c =
     let in-book = slow-accepted d bs ls p maker passed (told .0) fit in
     let leader = passed-value (shared-reasons d bs p) maker (d .leads (p .view)) passed in
     let certificate = c .slow-certificate-certificate .ensures ∙ ap (λ rs. slow-certificate (d .quorum) bs (p .parent) rs (p .heard .bits)) (told .1) in
-    record {
-      reply = ap Ok (c .enter .ensures .number) ∙ sym in-book;
-      blocks =
-          c .enter .ensures .blocks
-          ∙ ap (λ b. bs ++ b ∷ []) (c .proposed-block .ensures ∙ ap (λ m. entered bs m p Slow (c .in-Continue-reports .reports) (c .slow-certificate-certificate .result)) leader ∙ ap₂ (λ rs t. entered bs (d .leads (p .view)) p Slow rs t) (told .1) certificate)
-          ∙ sym (slow-grown d bs ls p in-book);
-      letters = c .enter .ensures .letters;
-    }
+    slow-admission d bs ls (known-of book) (g .R·QuorumRule·met .lawful (c .args .rule .now)) p _ _ _
+    (ap Ok (c .enter .ensures .number) ∙ sym in-book)
+    (c .enter .ensures .blocks
+    ∙ ap (λ b. bs ++ b ∷ []) (c .proposed-block .ensures ∙ ap (λ m. entered bs m p Slow (c .in-Continue-reports .reports) (c .slow-certificate-certificate .result)) leader ∙ ap₂ (λ rs t. entered bs (d .leads (p .view)) p Slow rs t) (told .1) certificate)
+    ∙ sym (slow-grown d bs ls p in-book))
+    (c .enter .ensures .letters)
