@@ -4,6 +4,7 @@ use mathlib.Core.Path.{_≡_, refl, sym, ap, subst, _∙_}
 use mathlib.Core.Bool.{Bool, true, false}
 use mathlib.Core.List.{List, [], _∷_, _++_}
 use Prim.Native.Nat.{ℕ}
+use native.Mathlib.Omega.{arith}
 use lib.ListN.{length}
 use Rattle.std.proofs.shelf.Tests.{both-ways}
 use Rattle.std.specs.Orderings.{Decides}
@@ -14,13 +15,18 @@ use Rattle.quorum.specs.Laws.{QuorumLaws}
 use Rattle.refusal.proofs.Replies.{replied-least}
 use Rattle.refusal.specs.Reasons.{Least}
 use Rattle.refusal.specs.declared.Refusal.{Refusal}
-use Rattle.book.specs.Admission.{Design, fast-reasons, slow-reasons, fast-reply, slow-reply, fast-block, slow-block, fast-blocks, slow-blocks, grown}
+use Rattle.book.specs.Admission.{Design, fast-reasons, slow-reasons, fast-reply, slow-reply, fast-block, slow-block, fast-blocks, slow-blocks, grown, reports-of, slow-certificate}
 use Rattle.book.specs.Known.{Known}
+use Rattle.book.specs.Pages.{no-reports}
 use Rattle.book.specs.Promises.{FastAdmission, SlowAdmission}
 use Rattle.book.specs.Rules.{JustifiedFast, JustifiedSlow, Unbarred, WellMade}
 use Rattle.book.specs.declared.block.Block.{Block}
+use Rattle.book.specs.declared.block.Kind.the-variants.{Fast as FastKind, Slow as SlowKind}
 use Rattle.book.specs.declared.block.Letter.{Letter}
 use Rattle.book.specs.declared.block.Proposal.{Proposal}
+use Rattle.book.proofs.Entries.{can-enter, slow-certificate-held}
+use Rattle.book.proofs.Growth.{known-push, no-report}
+use Rattle.book.proofs.Reports.{latest-held, letter-latest, reports-held}
 use Rattle.book.proofs.Justify.{fast-justified, justified-fast, slow-justified, justified-slow}
 use Rattle.book.proofs.Keeps.{well-fast, well-slow}
 
@@ -81,3 +87,31 @@ module _
           least = subst (Least (slow-reasons d bs ls p)) (sym e) (replied-least 0 (slow-reasons d bs ls p) (length bs) tt);
           lawful = λ well. subst (WellMade d) (sym f) (slow-lawful well);
         }
+
+    -- and the book stays known
+    pub fast-known : Known (fast-blocks d bs p) ls
+    fast-known = keeps (fast-reply d bs p) refl
+      where
+        keeps : (q : Result ℕ Refusal) → fast-reply d bs p ≡ q → Known (grown q bs (fast-block d bs p)) ls
+        keeps (Ok z) e =
+            let j = fast-justified d bs p laws z e in
+            let hp = j .0 .parent-held in
+            known-push bs ls known (fast-block d bs p)
+            (can-enter bs ls known p (d .leads (p .view)) FastKind no-reports (p .parent) (j .1 .viewed .1) hp (omega (arith, j .0 .next-view)) hp (λ s. omega (arith, no-report s, hp)))
+        keeps (Err z) e = known
+
+    pub slow-known : Known (slow-blocks d bs ls p) ls
+    slow-known = keeps (slow-reply d bs ls p) refl
+      where
+        keeps : (q : Result ℕ Refusal) → slow-reply d bs ls p ≡ q → Known (grown q bs (slow-block d bs ls p)) ls
+        keeps (Ok z) e =
+            let j = slow-justified d bs p laws ls known z e in
+            let hp = j .0 .parent-held in
+            let told = j .0 .parent-reported in
+            let reports = reports-of ls (p .heard .bits) (p .view) in
+            known-push bs ls known (slow-block d bs ls p)
+            (can-enter bs ls known p (d .leads (p .view)) SlowKind reports (slow-certificate (d .quorum) bs (p .parent) reports (p .heard .bits)) (j .1 .viewed .1) hp
+            (latest-held bs ls known (p .heard .bits) (p .view) (told .0) (p .parent) (letter-latest ls (told .0) (p .view) (p .parent) (told .2)) .1)
+            (slow-certificate-held (d .quorum) bs ls known (p .parent) reports (p .heard .bits) hp)
+            (reports-held bs ls known (p .heard .bits) (p .view)))
+        keeps (Err z) e = known

@@ -1,0 +1,4 @@
+mod Invariant
+mod Keeping
+mod Runs
+mod Theorem
