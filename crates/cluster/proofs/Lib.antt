@@ -1,3 +1,4 @@
+pub mod Examples
 mod Invariant
 mod Keeping
 mod Runs

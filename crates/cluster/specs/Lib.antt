@@ -1,3 +1,4 @@
 pub mod Calls
+pub mod Marked
 pub mod Safety
 pub mod State
