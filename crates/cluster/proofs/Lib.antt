@@ -1,5 +1,6 @@
-pub mod Examples
+mod Examples
 mod Invariant
 mod Keeping
 mod Runs
+pub mod Seating
 mod Theorem

@@ -1,0 +1,154 @@
+// What seats do: kept ones vote, commit and leave views, open ones say anything.
+ghost use mathlib.Core.Bool.{Bool, cond, _&&_};
+ghost use mathlib.Core.List.{[], _∷_};
+ghost use mathlib.Core.Path.{_≡_};
+ghost use Prim.Native.Nat.{ℕ, _<_};
+ghost use lib.Dec.{leb, ltb};
+ghost use Rattle.std.specs.Of.Vec.{vec-items, vec-len};
+ghost use Rattle.refusal.specs.Reasons.{replied};
+ghost use Rattle.refusal.specs.declared.Refusal.the-variants.{CommitConflict};
+ghost use Rattle.book.specs.Admission.{conflict};
+ghost use Rattle.book.specs.Pages.{at, stands};
+ghost use Rattle.cluster.specs.Calls.{reply, after};
+ghost use Rattle.cluster.specs.Held.{held-by};
+ghost use Rattle.cluster.specs.declared.call.Call.the-variants.{Show, Expire, Vote, Letter as Write};
+use crate::inner::Inner;
+use crate::seat::Seat;
+use book::block::Letter;
+use refusal::Refusal;
+use rotation::turns::is_view;
+
+impl Inner {
+    // The view of a block.
+    fn view_of(&self, b: u32) -> u32
+        requires { ⌜ b < vec-len (now self .book .blocks) ⌝ }
+        ensures { λ r. ⌜ r ≡ at (vec-items (now (self .entry) .book .blocks)) b .view ⌝ }
+    {
+        match self.book.view(b) {
+            Some(view) => view,
+            None => 0,
+        }
+    }
+
+    // Whether block b stands on block c.
+    fn stands(&self, b: u32, c: u32) -> bool
+        requires b_held { ⌜ b < vec-len (now self .book .blocks) ⌝ }
+        requires c_held { ⌜ c < vec-len (now self .book .blocks) ⌝ }
+        ensures { λ r. ⌜ r ≡ stands (vec-items (now (self .entry) .book .blocks)) b c ⌝ }
+    {
+        match self.book.stands_on(b, c) {
+            Some(stands) => stands,
+            None => false,
+        }
+    }
+
+    // The tip of a seat after it was shown a commit point, which is taken if it stands on the tip.
+    fn follow(&self, tip: u32, commit: u32) -> Result<u32, Refusal>
+        requires tip_held { ⌜ tip < vec-len (now self .book .blocks) ⌝ }
+        requires commit_held { ⌜ commit < vec-len (now self .book .blocks) ⌝ }
+        ensures { λ r. ⌜ r ≡ replied ((conflict (vec-items (now (self .entry) .book .blocks)) commit tip, CommitConflict) ∷ []) (cond (stands (vec-items (now (self .entry) .book .blocks)) commit tip) commit tip) ⌝ }
+    {
+        if self.stands(commit, tip) {
+            return Ok(commit);
+        }
+        if self.stands(tip, commit) {
+            return Ok(tip);
+        }
+        Err(Refusal::CommitConflict)
+    }
+
+    // Whether a seat votes for a block of this view: its own or a later one, and later than its last vote's.
+    fn votes(&self, seat: &Seat, view: u32) -> bool
+        requires { ⌜ now seat .vote < vec-len (now self .book .blocks) ⌝ }
+        ensures { λ r. ⌜ r ≡ leb (now (seat .entry) .view) view && ltb (at (vec-items (now (self .entry) .book .blocks)) (now (seat .entry) .vote) .view) view ⌝ }
+    {
+        view >= seat.view && view > self.view_of(seat.vote)
+    }
+
+    // Shows a block to a seat. Gives 1 for a vote, else 0.
+    pub(crate) fn show(&mut self, seat: u8, block: u32) -> Result<u32, Refusal>
+        requires { ⌜ seat < 64 ⌝ }
+        ensures reply { λ r. ⌜ ((n : ℕ) (quorum : ℕ → Bool) (leads : ℕ → ℕ) → seat < n → r ≡ reply (held-by n quorum leads (now (self .entry))) (Show seat block)) ⌝ }
+        ensures after { λ _. ⌜ ((n : ℕ) (quorum : ℕ → Bool) (leads : ℕ → ℕ) → seat < n → held-by n quorum leads (now (self .exit)) ≡ after (held-by n quorum leads (now (self .entry))) (Show seat block)) ⌝ }
+    {
+        let Some(view) = self.book.view(block) else {
+            return Err(Refusal::NoSuchBlock);
+        };
+        let Some(commit) = self.book.commit_point(block) else {
+            return Err(Refusal::NoSuchBlock);
+        };
+        if self.open_set.holds(seat) {
+            return Err(Refusal::SeatIsOpen);
+        }
+        let before = self.seats[seat as usize];
+        let tip = self.follow(before.tip, commit)?;
+        if !self.votes(&before, view) {
+            let it = &mut self.seats[seat as usize];
+            it.tip = tip;
+            return Ok(0);
+        }
+        let _ = self.book.add_vote(seat, block);
+        let it = &mut self.seats[seat as usize];
+        it.view = view;
+        it.vote = block;
+        it.tip = tip;
+        Ok(1)
+    }
+
+    // A seat leaves its view for a later one, and a letter names its last vote. Gives that block.
+    pub(crate) fn expire(&mut self, seat: u8, view: u32) -> Result<u32, Refusal>
+        requires { ⌜ seat < 64 ⌝ }
+        ensures reply { λ r. ⌜ ((n : ℕ) (quorum : ℕ → Bool) (leads : ℕ → ℕ) → seat < n → r ≡ reply (held-by n quorum leads (now (self .entry))) (Expire seat view)) ⌝ }
+        ensures after { λ _. ⌜ ((n : ℕ) (quorum : ℕ → Bool) (leads : ℕ → ℕ) → seat < n → held-by n quorum leads (now (self .exit)) ≡ after (held-by n quorum leads (now (self .entry))) (Expire seat view)) ⌝ }
+    {
+        if !is_view(view) {
+            return Err(Refusal::ViewOutOfRange);
+        }
+        if self.open_set.holds(seat) {
+            return Err(Refusal::SeatIsOpen);
+        }
+        let before = self.seats[seat as usize];
+        if view <= before.view {
+            return Err(Refusal::ViewNotAboveSeat);
+        }
+        self.book.add_letter(Letter {
+            seat,
+            view,
+            block: before.vote,
+        })?;
+        let it = &mut self.seats[seat as usize];
+        it.view = view;
+        Ok(before.vote)
+    }
+
+    // An open seat votes for a block. Gives the number of voters.
+    pub(crate) fn vote(&mut self, seat: u8, block: u32) -> Result<u32, Refusal>
+        ensures reply { λ r. ⌜ ((n : ℕ) (quorum : ℕ → Bool) (leads : ℕ → ℕ) → seat < n → r ≡ reply (held-by n quorum leads (now (self .entry))) (Vote seat block)) ⌝ }
+        ensures after { λ _. ⌜ ((n : ℕ) (quorum : ℕ → Bool) (leads : ℕ → ℕ) → seat < n → held-by n quorum leads (now (self .exit)) ≡ after (held-by n quorum leads (now (self .entry))) (Vote seat block)) ⌝ }
+    {
+        if block >= self.book.blocks() {
+            return Err(Refusal::NoSuchBlock);
+        }
+        if !self.open_set.holds(seat) {
+            return Err(Refusal::SeatIsKept);
+        }
+        self.book.add_vote(seat, block)
+    }
+
+    // An open seat writes a letter. Gives the number of letters.
+    pub(crate) fn letter(&mut self, letter: Letter) -> Result<u32, Refusal>
+        ensures reply { λ r. ⌜ ((n : ℕ) (quorum : ℕ → Bool) (leads : ℕ → ℕ) → letter .seat < n → r ≡ reply (held-by n quorum leads (now (self .entry))) (Write letter)) ⌝ }
+        ensures after { λ _. ⌜ ((n : ℕ) (quorum : ℕ → Bool) (leads : ℕ → ℕ) → letter .seat < n → held-by n quorum leads (now (self .exit)) ≡ after (held-by n quorum leads (now (self .entry))) (Write letter)) ⌝ }
+    {
+        if letter.block >= self.book.blocks() {
+            return Err(Refusal::NoSuchBlock);
+        }
+        if !is_view(letter.view) {
+            return Err(Refusal::ViewOutOfRange);
+        }
+        if !self.open_set.holds(letter.seat) {
+            return Err(Refusal::SeatIsKept);
+        }
+        self.book.add_letter(letter)
+    }
+}
