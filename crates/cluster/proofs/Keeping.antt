@@ -28,14 +28,10 @@ use Rattle.book.proofs.Keeps.{well-first, well-vote}
 use Rattle.book.proofs.Reflect.{true-from, from-true, not-from}
 use Rattle.cluster.specs.State.{idle}
 use Rattle.cluster.specs.declared.seat.Seat.{Seat}
+use Rattle.cluster.proofs.Seating.{idle-at}
 use Rattle.cluster.proofs.Invariant.{KeptIn, SeatRule, LetterRule, Told, Inv}
 
 -- After opening.
-
-idle-at : (n s : ℕ) → getD (replicate n idle) s idle ≡ idle
-idle-at zero s = refl
-idle-at (suc n) zero = refl
-idle-at (suc n) (suc s) = idle-at n s
 
 module _ (d : Design) (small : d .seats ≤ 64) where
   abbrev first : List Block

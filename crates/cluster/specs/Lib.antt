@@ -1,6 +1,7 @@
 pub mod Calls
 pub mod Held
 pub mod Marked
+pub mod Opening
 pub mod Safety
 pub mod Seated
 pub mod State

@@ -66,20 +66,24 @@ pub record Fit (d : Design) (most : ℕ) (tolerated : ℕ → Bool) : Type 0 whe
   pub rotation : RotationLaws (d .seats) (d .leads)
   pub tolerable : T (tolerated (d .open-seats))
 
--- The safety law: for any rule with its laws, any rotation, any tolerated open set, any calls xs from a new cluster, and
--- any calls ys after them.
+-- What is safe of all that follows a state: any calls xs, with any arguments and refused ones among them, and any calls
+-- ys after them.
+abbrev pub Safe : State → Type 0
+Safe st = (xs ys : List Call) → let m = run st xs in Agreement m (run m ys) × KeptLeaderLasts m × EldersCommitted m
+
+-- The safety law: for any rule with its laws, any rotation and any tolerated open set, a new cluster is safe.
 abbrev pub Safety-law : Type 0
-Safety-law =
-    (d : Design) (most : ℕ) (tolerated : ℕ → Bool) → Fit d most tolerated → (xs ys : List Call) →
-    let m = run (fresh d) xs in
-    Agreement m (run m ys) × KeptLeaderLasts m × EldersCommitted m
+Safety-law = (d : Design) (most : ℕ) (tolerated : ℕ → Bool) → Fit d most tolerated → Safe (fresh d)
 
 -- At each moment every block of a view above that of b's certificate stands on b's commit point; and so no showing is
 -- refused because commit point and tip conflict.
-abbrev pub Proposals-law : Type 0
-Proposals-law =
-    (d : Design) (most : ℕ) (tolerated : ℕ → Bool) → Fit d most tolerated → (xs : List Call) →
-    let m = run (fresh d) xs in
+abbrev pub ProposalsStand : State → Type 0
+ProposalsStand st =
+    (xs : List Call) →
+    let m = run st xs in
     ((b x : ℕ) → b < length (m .blocks) → x < length (m .blocks) →
     book-of m .view (book-of m .cert b) < book-of m .view x → StandsOn (book-of m) x (book-of m .commit b))
     × ((s b : ℕ) → reply m (Show s b) ≡ Err CommitConflict → ⊥)
+
+abbrev pub Proposals-law : Type 0
+Proposals-law = (d : Design) (most : ℕ) (tolerated : ℕ → Bool) → Fit d most tolerated → ProposalsStand (fresh d)

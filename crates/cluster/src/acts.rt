@@ -4,6 +4,7 @@ ghost use mathlib.Core.List.{[], _∷_};
 ghost use mathlib.Core.Path.{_≡_};
 ghost use Prim.Native.Nat.{ℕ, _<_};
 ghost use lib.Dec.{leb, ltb};
+ghost use lib.ListN.{replicate};
 ghost use Rattle.std.specs.Of.Vec.{vec-items, vec-len};
 ghost use Rattle.refusal.specs.Reasons.{replied};
 ghost use Rattle.refusal.specs.declared.Refusal.the-variants.{CommitConflict};
@@ -11,14 +12,38 @@ ghost use Rattle.book.specs.Admission.{conflict};
 ghost use Rattle.book.specs.Pages.{at, stands};
 ghost use Rattle.cluster.specs.Calls.{reply, after};
 ghost use Rattle.cluster.specs.Held.{held-by};
-ghost use Rattle.cluster.specs.declared.call.Call.the-variants.{Show, Expire, Vote, Letter as Write};
+ghost use Rattle.cluster.specs.State.{idle};
+ghost use Rattle.cluster.specs.declared.call.Call.the-variants.{Fast, Slow, Show, Expire, Vote, Letter as Write};
 use crate::inner::Inner;
 use crate::seat::Seat;
 use book::block::Letter;
+use book::block::Proposal;
+use book::pages::Book;
+use quorum::rule::QuorumRule;
+use quorum::seats::SeatSet;
 use refusal::Refusal;
+use rotation::turns::Rotation;
 use rotation::turns::is_view;
 
 impl Inner {
+    // A book and seats that have done nothing.
+    pub(crate) fn new(book: Book, open_set: SeatSet) -> Inner
+        ensures book { λ r. ⌜ r .book ≡ book ⌝ }
+        ensures seats { λ r. ⌜ r .seats ≡ replicate 64 idle ⌝ }
+        ensures open_set { λ r. ⌜ r .«open_set» ≡ «open_set» ⌝ }
+    {
+        let seat = Seat {
+            view: 0,
+            vote: 0,
+            tip: 0,
+        };
+        Inner {
+            book,
+            open_set,
+            seats: [seat; 64],
+        }
+    }
+
     // The view of a block.
     fn view_of(&self, b: u32) -> u32
         requires { ⌜ b < vec-len (now self .book .blocks) ⌝ }
@@ -63,6 +88,34 @@ impl Inner {
         ensures { λ r. ⌜ r ≡ leb (now (seat .entry) .view) view && ltb (at (vec-items (now (self .entry) .book .blocks)) (now (seat .entry) .vote) .view) view ⌝ }
     {
         view >= seat.view && view > self.view_of(seat.vote)
+    }
+
+    // A proposal on the votes for its parent.
+    pub(crate) fn fast<R: QuorumRule, T: Rotation>(
+        &mut self,
+        rule: &R,
+        rotation: &T,
+        proposal: &Proposal,
+    ) -> Result<u32, Refusal>
+        ensures reply { λ r. ⌜ r ≡ reply (held-by (R·QuorumRule .seats (now (rule .entry))) (R·QuorumRule .quorum (now (rule .entry))) (T·Rotation .leads (now (rotation .entry))) (now (self .entry))) (Fast (now (proposal .entry))) ⌝ }
+        ensures after { λ _. ⌜ held-by (R·QuorumRule .seats (now (rule .entry))) (R·QuorumRule .quorum (now (rule .entry))) (T·Rotation .leads (now (rotation .entry))) (now (self .exit)) ≡ after (held-by (R·QuorumRule .seats (now (rule .entry))) (R·QuorumRule .quorum (now (rule .entry))) (T·Rotation .leads (now (rotation .entry))) (now (self .entry))) (Fast (now (proposal .entry))) ⌝ }
+    {
+        let open_set = self.open_set;
+        self.book.fast(rule, rotation, open_set, proposal)
+    }
+
+    // A proposal on reports.
+    pub(crate) fn slow<R: QuorumRule, T: Rotation>(
+        &mut self,
+        rule: &R,
+        rotation: &T,
+        proposal: &Proposal,
+    ) -> Result<u32, Refusal>
+        ensures reply { λ r. ⌜ r ≡ reply (held-by (R·QuorumRule .seats (now (rule .entry))) (R·QuorumRule .quorum (now (rule .entry))) (T·Rotation .leads (now (rotation .entry))) (now (self .entry))) (Slow (now (proposal .entry))) ⌝ }
+        ensures after { λ _. ⌜ held-by (R·QuorumRule .seats (now (rule .entry))) (R·QuorumRule .quorum (now (rule .entry))) (T·Rotation .leads (now (rotation .entry))) (now (self .exit)) ≡ after (held-by (R·QuorumRule .seats (now (rule .entry))) (R·QuorumRule .quorum (now (rule .entry))) (T·Rotation .leads (now (rotation .entry))) (now (self .entry))) (Slow (now (proposal .entry))) ⌝ }
+    {
+        let open_set = self.open_set;
+        self.book.slow(rule, rotation, open_set, proposal)
     }
 
     // Shows a block to a seat. Gives 1 for a vote, else 0.
@@ -111,11 +164,12 @@ impl Inner {
         if view <= before.view {
             return Err(Refusal::ViewNotAboveSeat);
         }
-        self.book.add_letter(Letter {
-            seat,
-            view,
-            block: before.vote,
-        })?;
+        self.book
+            .add_letter(Letter {
+                seat,
+                view,
+                block: before.vote,
+            })?;
         let it = &mut self.seats[seat as usize];
         it.view = view;
         Ok(before.vote)

@@ -9,14 +9,14 @@ use Rattle.book.specs.Pages.{at}
 use Rattle.book.proofs.Extends.{extends-vote}
 use Rattle.book.proofs.Growth.{known-of}
 use Rattle.cluster.specs.declared.seat.Seat.{Seat}
-use Rattle.cluster.proofs.Seating.{Seated, seated-extends, seated-set, of-held, follows}
+use Rattle.cluster.proofs.Seating.{Seated, seated-in, seated-extends, seated-set, of-held, follows}
 use Rattle.cluster.proofs.inner.Inner.show.Needs as need
 
 pub ghost-self-2 : need.ghost-self-2
 ghost-self-2 c =
     let inner = c .args .self .now in
     let bs = vec-items (inner .book .blocks) in
-    let seated : Seated bs (inner .seats) = record { votes = inner .«votes_known»; tips = inner .«tips_known»; views = inner .«views_reached» } in
+    let seated = seated-in inner in
     let shown = of-held (λ x. x .view) bs (c .args .block) (c .in-Some .view) (c .in-Some .ensures tt) in
     let point = of-held (λ x. x .commit) bs (c .args .block) (c .in-Some-commit-point .commit) (c .in-Some-commit-point .ensures tt) in
     let extended = extends-vote bs (c .args .seat) (c .args .block) in
@@ -25,9 +25,9 @@ ghost-self-2 c =
     let me : Seat = record { view = c .in-Some .view; vote = c .args .block; tip = c .in-Continue-tip .tip } in
     let cs = vote-after bs (c .args .seat) (c .args .block) in
     let then =
-        seated-set cs (inner .seats) (c .args .seat) me (seated-extends (inner .seats) extended seated)
-        (omega (arith, shown .0, extended .longer))
-        (omega (arith, tip, extended .longer))
-        (omega (arith, shown .1, extended .each (c .args .block) (shown .0) .view)) in
+    seated-set cs (inner .seats) (c .args .seat) me (seated-extends (inner .seats) extended seated)
+    (omega (arith, shown .0, extended .longer))
+    (omega (arith, tip, extended .longer))
+    (omega (arith, shown .1, extended .each (c .args .block) (shown .0) .view)) in
     let now = subst (λ xs. Seated xs (set (inner .seats) (c .args .seat) me)) (sym (c .add-vote .ensures .blocks)) then in
     (now .votes, (now .tips, (now .views, tt)))

@@ -1,0 +1,10 @@
+// The cluster.
+use crate::inner::Inner;
+
+// A quorum rule, a rotation, a book and seats.
+#[derive(Drop)]
+pub struct Cluster<R, T> {
+    pub(crate) rule: R,
+    pub(crate) rotation: T,
+    pub(crate) inner: Inner,
+}
