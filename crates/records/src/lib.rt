@@ -1,0 +1,3 @@
+// The records of a rehearsal: 32 bytes each, read one after another.
+pub mod reader;
+pub mod record;
