@@ -9,9 +9,9 @@ use Rattle.std.specs.declared.option.Option.the-variants.{Some, None}
 use Rattle.quorum.specs.Seats.{held}
 use Rattle.quorum.specs.declared.seats.SeatSet.{SeatSet}
 use Rattle.book.specs.Admission.{rank-of}
-use Rattle.book.specs.Questions.{of-block, of-later, report-told, stands-told, highest-view}
+use Rattle.book.specs.Questions.{of-block, of-later, report-told, stands-told, nth, highest-view}
 use Rattle.book.specs.declared.block.Kind.{Kind}
-use Rattle.cluster.specs.State.{State, seat-at, is-kept}
+use Rattle.cluster.specs.State.{State, seat-at, is-kept, commits}
 use Rattle.cluster.specs.declared.seat.Seat.{Seat}
 
 -- Numbers of things.
@@ -89,3 +89,7 @@ last-vote st s = of-kept (λ x. x .vote) st s
 
 abbrev pub tip : State → ℕ → Option ℕ
 tip st s = of-kept (λ x. x .tip) st s
+
+-- the k-th of its commits, from 0
+abbrev pub commit : State → ℕ → ℕ → Option ℕ
+commit st s k = cond (is-kept st s) (nth (commits st s) k) None

@@ -169,6 +169,13 @@ impl<R: QuorumRule, T: Rotation> Cluster<R, T> {
         Some(self.kept_seat(seat)?.tip)
     }
 
+    // The k-th block, from 0, that a kept seat has committed.
+    pub fn commit(&self, seat: u8, k: u32) -> Option<u32>
+        ensures { λ r. ⌜ r ≡ told.commit (state-of R·QuorumRule T·Rotation (now (self .entry))) seat k ⌝ }
+    {
+        self.inner.book.on_chain(self.kept_seat(seat)?.tip, k)
+    }
+
     // The first view at or after `from` that the seat leads, as the rotation tells it.
     pub fn next_turn(&self, seat: u8, from: u32) -> Option<u32>
         ensures { λ r. ⌜ NextTurn (T·Rotation .seats (now (self .entry) .rotation)) (T·Rotation .leads (now (self .entry) .rotation)) seat from r ⌝ }
