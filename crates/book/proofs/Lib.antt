@@ -1,5 +1,6 @@
 pub mod Admitted
 pub mod Chains
+pub mod Descent
 pub mod Entries
 pub mod Extends
 pub mod Growth

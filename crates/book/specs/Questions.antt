@@ -1,7 +1,7 @@
 -- What is told of a block, where there is one.
 -- Assumes nothing.
 use mathlib.Core.Bool.{Bool, cond, _&&_}
-use mathlib.Core.List.{List, [], _∷_}
+use mathlib.Core.List.{List, [], _∷_, reverse}
 use Prim.Native.Nat.{ℕ, max}
 use lib.Dec.{ltb}
 use lib.ListN.{length, getD}
@@ -9,7 +9,7 @@ use Rattle.std.specs.declared.option.Option.{Option}
 use Rattle.std.specs.declared.option.Option.the-variants.{Some, None}
 use Rattle.quorum.specs.Seats.{held}
 use Rattle.book.specs.Kinds.{is-slow}
-use Rattle.book.specs.Pages.{at, stands}
+use Rattle.book.specs.Pages.{at, chain, stands}
 use Rattle.book.specs.declared.block.Block.{Block}
 
 -- a part of a block
@@ -28,6 +28,14 @@ report-told bs b s =
 -- whether one block stands on another, where both are there
 abbrev pub stands-told : List Block → ℕ → ℕ → Option Bool
 stands-told bs b c = cond (ltb b (length bs) && ltb c (length bs)) (Some (stands bs b c)) None
+
+-- the k-th of a list, from 0
+abbrev pub nth : List ℕ → ℕ → Option ℕ
+nth xs k = cond (ltb k (length xs)) (Some (getD xs k 0)) None
+
+-- the k-th block, from the first block up, of the chain of b
+abbrev pub on-chain : List Block → ℕ → ℕ → Option ℕ
+on-chain bs b k = cond (ltb b (length bs)) (nth (reverse (chain bs b)) k) None
 
 -- the greatest view of a list of blocks
 abbrev pub highest-view : List Block → ℕ

@@ -8,8 +8,8 @@ ghost use Rattle.std.specs.Of.Vec.{vec-items, vec-len};
 ghost use Rattle.std.specs.Options.{Cases as BySome};
 ghost use Rattle.std.specs.declared.option.Option.the-variants.{Some, None};
 ghost use Rattle.book.specs.Admission.{rank-of};
-ghost use Rattle.book.specs.Pages.{at, stands};
-ghost use Rattle.book.specs.Questions.{of-block, of-later, report-told, stands-told, highest-view};
+ghost use Rattle.book.specs.Pages.{at, chain, stands};
+ghost use Rattle.book.specs.Questions.{of-block, of-later, report-told, stands-told, on-chain, highest-view};
 use crate::block::Block;
 use crate::block::Kind;
 use crate::pages::Book;
@@ -149,6 +149,49 @@ impl Book {
             return None;
         }
         Some(self.stands(b, c))
+    }
+
+    // How many blocks the chain of b has.
+    fn chain_length(&self, b: u32) -> u32
+        requires { ⌜ b < vec-len (now self .blocks) ⌝ }
+        ensures { λ r. ⌜ r ≡ length (chain (vec-items (now (self .entry) .blocks)) b) ⌝ }
+    {
+        let mut count = 1;
+        let mut below = b;
+        while below > 0 {
+            below = self.block(below).parent;
+            count += 1;
+        }
+        count
+    }
+
+    // The block so many steps down the chain of b.
+    fn below(&self, b: u32, steps: u32) -> u32
+        requires held { ⌜ b < vec-len (now self .blocks) ⌝ }
+        requires within { ⌜ steps < length (chain (vec-items (now self .blocks)) b) ⌝ }
+        ensures { λ r. ⌜ r ≡ getD (chain (vec-items (now (self .entry) .blocks)) b) steps 0 ⌝ }
+    {
+        let mut below = b;
+        let mut left = steps;
+        while left > 0 {
+            below = self.block(below).parent;
+            left -= 1;
+        }
+        below
+    }
+
+    // The k-th block, from the first block up, of the chain of b.
+    pub fn on_chain(&self, b: u32, k: u32) -> Option<u32>
+        ensures { λ r. ⌜ r ≡ on-chain (vec-items (now (self .entry) .blocks)) b k ⌝ }
+    {
+        if b as usize >= self.blocks.len() {
+            return None;
+        }
+        let count = self.chain_length(b);
+        if k >= count {
+            return None;
+        }
+        Some(self.below(b, count - 1 - k))
     }
 
     // The highest view of a block in the book.

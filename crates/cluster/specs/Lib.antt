@@ -5,3 +5,4 @@ pub mod Opening
 pub mod Safety
 pub mod Seated
 pub mod State
+pub mod Told

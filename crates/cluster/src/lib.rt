@@ -6,4 +6,5 @@ pub mod cluster;
 pub mod inner;
 pub mod law;
 pub mod open;
+pub mod questions;
 pub mod seat;
