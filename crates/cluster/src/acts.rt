@@ -170,8 +170,7 @@ impl Inner {
                 view,
                 block: before.vote,
             })?;
-        let it = &mut self.seats[seat as usize];
-        it.view = view;
+        self.seats[seat as usize].view = view;
         Ok(before.vote)
     }
 
