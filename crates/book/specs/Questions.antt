@@ -8,22 +8,17 @@ use lib.ListN.{length, getD}
 use Rattle.std.specs.declared.option.Option.{Option}
 use Rattle.std.specs.declared.option.Option.the-variants.{Some, None}
 use Rattle.quorum.specs.Seats.{held}
-use Rattle.book.specs.Kinds.{is-slow}
-use Rattle.book.specs.Pages.{at, chain, stands}
+use Rattle.book.specs.Kinds.{is-first, is-slow}
+use Rattle.book.specs.Pages.{chain, stands}
 use Rattle.book.specs.declared.block.Block.{Block}
 
--- a part of a block
-abbrev pub of-block : {X : Type 0} → (Block → X) → List Block → ℕ → Option X
-of-block f bs b = cond (ltb b (length bs)) (Some (f (at bs b))) None
-
 -- a part that the first block lacks
-abbrev pub of-later : {X : Type 0} → (Block → X) → List Block → ℕ → Option X
-of-later f bs b = cond (ltb 0 b && ltb b (length bs)) (Some (f (at bs b))) None
+abbrev pub of-later : {X : Type 0} → Block → X → Option X
+of-later b x = cond (is-first (b .kind)) None (Some x)
 
 -- what a seat reported to a slow block that heard it
-abbrev pub report-told : List Block → ℕ → ℕ → Option ℕ
-report-told bs b s =
-    cond (ltb b (length bs) && (is-slow (at bs b .kind) && held s (at bs b .heard .bits))) (Some (getD (at bs b .reports) s 0)) None
+abbrev pub report-told : Block → ℕ → Option ℕ
+report-told b s = cond (is-slow (b .kind) && held s (b .heard .bits)) (Some (getD (b .reports) s 0)) None
 
 -- whether one block stands on another, where both are there
 abbrev pub stands-told : List Block → ℕ → ℕ → Option Bool

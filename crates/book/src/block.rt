@@ -1,6 +1,7 @@
 // What a book holds.
 ghost use mathlib.Core.Path.{_≡_};
-ghost use Rattle.book.specs.Kinds.{is-slow};
+ghost use Rattle.book.specs.Kinds.{is-first, is-slow};
+ghost use Rattle.book.specs.Questions.{of-later, report-told};
 use quorum::seats::SeatSet;
 
 // How a block was justified. The first block needs no justification.
@@ -12,6 +13,15 @@ pub enum Kind {
 }
 
 impl Kind {
+    fn is_first(self) -> bool
+        ensures { λ r. ⌜ r ≡ is-first self ⌝ }
+    {
+        match self {
+            Kind::First => true,
+            Kind::Fast | Kind::Slow => false,
+        }
+    }
+
     pub fn is_slow(self) -> bool
         ensures { λ r. ⌜ r ≡ is-slow self ⌝ }
     {
@@ -27,23 +37,66 @@ impl Kind {
 pub struct Block {
     pub view: u32,
     // the block that it stands on
-    pub parent: u32,
+    pub(crate) parent: u32,
     pub payload: u64,
     // the seat that proposed it, the leader of its view
-    pub maker: u8,
+    pub(crate) maker: u8,
     // how many blocks it stands on, itself left out
     pub height: u32,
     pub kind: Kind,
     // the seats that its maker heard from
-    pub heard: SeatSet,
+    pub(crate) heard: SeatSet,
     // what each heard seat reported to a slow block, by seat
-    pub reports: [u32; 64],
+    pub(crate) reports: [u32; 64],
     // the block that its certificate is for
     pub certificate: u32,
     // the latest block that it shows to be committed
     pub commit: u32,
     // the seats that voted for it
     pub voters: SeatSet,
+}
+
+// What the first block has none of.
+impl Block {
+    // The block that it stands on.
+    pub fn parent(&self) -> Option<u32>
+        ensures { λ r. ⌜ r ≡ of-later (now (self .entry)) (now (self .entry) .parent) ⌝ }
+    {
+        if self.kind.is_first() {
+            return None;
+        }
+        Some(self.parent)
+    }
+
+    // The seat that proposed it, the leader of its view.
+    pub fn maker(&self) -> Option<u8>
+        ensures { λ r. ⌜ r ≡ of-later (now (self .entry)) (now (self .entry) .maker) ⌝ }
+    {
+        if self.kind.is_first() {
+            return None;
+        }
+        Some(self.maker)
+    }
+
+    // The seats that its maker heard from.
+    pub fn heard(&self) -> Option<SeatSet>
+        ensures { λ r. ⌜ r ≡ of-later (now (self .entry)) (now (self .entry) .heard) ⌝ }
+    {
+        if self.kind.is_first() {
+            return None;
+        }
+        Some(self.heard)
+    }
+
+    // What a seat reported to it, where it is slow and heard the seat.
+    pub fn report(&self, seat: u8) -> Option<u32>
+        ensures { λ r. ⌜ r ≡ report-told (now (self .entry)) seat ⌝ }
+    {
+        if self.kind.is_slow() && self.heard.holds(seat) {
+            return Some(self.reports[seat as usize]);
+        }
+        None
+    }
 }
 
 // What a seat says on entering a view: the last block that it voted for.

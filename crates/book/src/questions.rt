@@ -1,7 +1,7 @@
 // What a book tells. Of what is not there it tells nothing.
-ghost use mathlib.Core.Bool.{true, false, cond, _&&_};
+ghost use mathlib.Core.Bool.{cond};
 ghost use mathlib.Core.Path.{_≡_};
-ghost use Prim.Native.Nat.{ℕ, _≤_, _<_};
+ghost use Prim.Native.Nat.{_≤_, _<_};
 ghost use lib.Dec.{ltb};
 ghost use lib.ListN.{length, getD};
 ghost use Rattle.std.specs.Of.Vec.{vec-items, vec-len};
@@ -9,12 +9,10 @@ ghost use Rattle.std.specs.Options.{Cases as BySome};
 ghost use Rattle.std.specs.declared.option.Option.the-variants.{Some, None};
 ghost use Rattle.book.specs.Admission.{rank-of};
 ghost use Rattle.book.specs.Pages.{at, chain, stands};
-ghost use Rattle.book.specs.Questions.{of-block, of-later, report-told, stands-told, on-chain, highest-view};
+ghost use Rattle.book.specs.Questions.{stands-told, on-chain, highest-view};
 use crate::block::Block;
-use crate::block::Kind;
 use crate::pages::Book;
 use highest::highest;
-use quorum::seats::SeatSet;
 
 impl Book {
     // The number of blocks.
@@ -32,7 +30,7 @@ impl Book {
     }
 
     // A block, where there is one.
-    fn find(&self, b: u32) -> Option<&Block>
+    pub fn find(&self, b: u32) -> Option<&Block>
         ensures { λ r. ⌜ BySome r (length (vec-items (now (self .entry) .blocks)) ≤ b) (λ x. (b < length (vec-items (now (self .entry) .blocks))) × (now x ≡ at (vec-items (now (self .entry) .blocks)) b)) ⌝ }
     {
         if b as usize >= self.blocks.len() {
@@ -41,85 +39,7 @@ impl Book {
         Some(self.block(b))
     }
 
-    // A block other than the first, where there is one.
-    fn find_later(&self, b: u32) -> Option<&Block>
-        ensures { λ r. ⌜ BySome r (ltb 0 b && ltb b (length (vec-items (now (self .entry) .blocks))) ≡ false) (λ x. (ltb 0 b && ltb b (length (vec-items (now (self .entry) .blocks))) ≡ true) × (now x ≡ at (vec-items (now (self .entry) .blocks)) b)) ⌝ }
-    {
-        if b == 0 {
-            return None;
-        }
-        self.find(b)
-    }
-
-    pub fn view(&self, b: u32) -> Option<u32>
-        ensures { λ r. ⌜ r ≡ of-block (λ x. x .view) (vec-items (now (self .entry) .blocks)) b ⌝ }
-    {
-        Some(self.find(b)?.view)
-    }
-
-    pub fn payload(&self, b: u32) -> Option<u64>
-        ensures { λ r. ⌜ r ≡ of-block (λ x. x .payload) (vec-items (now (self .entry) .blocks)) b ⌝ }
-    {
-        Some(self.find(b)?.payload)
-    }
-
-    // How many blocks it stands on, itself left out.
-    pub fn height(&self, b: u32) -> Option<u32>
-        ensures { λ r. ⌜ r ≡ of-block (λ x. x .height) (vec-items (now (self .entry) .blocks)) b ⌝ }
-    {
-        Some(self.find(b)?.height)
-    }
-
-    // The first block, a fast one or a slow one.
-    pub fn kind(&self, b: u32) -> Option<Kind>
-        ensures { λ r. ⌜ r ≡ of-block (λ x. x .kind) (vec-items (now (self .entry) .blocks)) b ⌝ }
-    {
-        Some(self.find(b)?.kind)
-    }
-
-    // The seats that voted for it; the first block counts every seat.
-    pub fn voters(&self, b: u32) -> Option<SeatSet>
-        ensures { λ r. ⌜ r ≡ of-block (λ x. x .voters) (vec-items (now (self .entry) .blocks)) b ⌝ }
-    {
-        Some(self.find(b)?.voters)
-    }
-
-    // The first block has none.
-    pub fn parent(&self, b: u32) -> Option<u32>
-        ensures { λ r. ⌜ r ≡ of-later (λ x. x .parent) (vec-items (now (self .entry) .blocks)) b ⌝ }
-    {
-        Some(self.find_later(b)?.parent)
-    }
-
-    // The first block has none.
-    pub fn maker(&self, b: u32) -> Option<u8>
-        ensures { λ r. ⌜ r ≡ of-later (λ x. x .maker) (vec-items (now (self .entry) .blocks)) b ⌝ }
-    {
-        Some(self.find_later(b)?.maker)
-    }
-
-    // The seats that its maker heard from; the first block has none.
-    pub fn heard(&self, b: u32) -> Option<SeatSet>
-        ensures { λ r. ⌜ r ≡ of-later (λ x. x .heard) (vec-items (now (self .entry) .blocks)) b ⌝ }
-    {
-        Some(self.find_later(b)?.heard)
-    }
-
-    // The block that its certificate is for.
-    pub fn certificate(&self, b: u32) -> Option<u32>
-        ensures { λ r. ⌜ r ≡ of-block (λ x. x .certificate) (vec-items (now (self .entry) .blocks)) b ⌝ }
-    {
-        Some(self.find(b)?.certificate)
-    }
-
-    // The latest block that it shows to be committed.
-    pub fn commit_point(&self, b: u32) -> Option<u32>
-        ensures { λ r. ⌜ r ≡ of-block (λ x. x .commit) (vec-items (now (self .entry) .blocks)) b ⌝ }
-    {
-        Some(self.find(b)?.commit)
-    }
-
-    // Its view and its certificate's view.
+    // A block's view and its certificate's view.
     pub fn rank(&self, b: u32) -> Option<(u32, u32)>
         ensures { λ r. ⌜ r ≡ cond (ltb b (length (vec-items (now (self .entry) .blocks)))) (Some (rank-of (vec-items (now (self .entry) .blocks)) b)) None ⌝ }
     {
@@ -127,17 +47,6 @@ impl Book {
             return None;
         }
         Some(self.rank_of(b))
-    }
-
-    // What a seat reported to a slow block that heard it.
-    pub fn report(&self, b: u32, seat: u8) -> Option<u32>
-        ensures { λ r. ⌜ r ≡ report-told (vec-items (now (self .entry) .blocks)) b seat ⌝ }
-    {
-        let block = self.find(b)?;
-        if block.kind.is_slow() && block.heard.holds(seat) {
-            return Some(block.reports[seat as usize]);
-        }
-        None
     }
 
     // Whether block b stands on block c.

@@ -12,12 +12,12 @@ use Rattle.quorum.specs.Laws.{QuorumLaws}
 use Rattle.rotation.specs.Laws.{RotationLaws}
 use Rattle.book.specs.Admission.{Design, design}
 use Rattle.book.specs.Pages.{genesis}
-use Rattle.cluster.specs.Held.{held-by}
+use Rattle.protocol.specs.Held.{held-by}
 use Rattle.cluster.specs.Opening.{SafeIf}
-use Rattle.cluster.specs.Safety.{Fit}
-use Rattle.cluster.specs.State.{State, idle, fresh}
-use Rattle.cluster.specs.declared.inner.Inner.{Inner}
-use Rattle.cluster.proofs.Theorem.{safety-law, proposals-law}
+use Rattle.protocol.specs.Safety.{Fit}
+use Rattle.protocol.specs.State.{State, idle, fresh}
+use Rattle.protocol.specs.declared.inner.Inner.{Inner}
+use Rattle.protocol.proofs.Theorem.{safety-law, proposals-law}
 
 pub state-fresh : (n : ℕ) (quorum : ℕ → Bool) (leads : ℕ → ℕ) (open-set : ℕ) (inner : Inner) → vec-items (inner .book .blocks) ≡ genesis n ∷ [] → vec-items (inner .book .letters) ≡ [] → inner .seats ≡ replicate 64 idle → inner .«open_set» .bits ≡ open-set → held-by n quorum leads inner ≡ fresh (design n quorum leads open-set)
 unfolding fresh

@@ -1,24 +1,12 @@
 -- The cluster that a value holds.
 -- Assumes nothing.
-use mathlib.Core.Bool.{Bool}
 use Prim.Native.Nat.{ℕ}
-use Rattle.std.specs.Of.Vec.{vec-items}
 use Rattle.quorum.specs.declared.rule.QuorumRule as QuorumRule
 use Rattle.rotation.specs.declared.turns.Rotation as Rotation
 use Rattle.book.specs.Admission.{Design, design}
-use Rattle.cluster.specs.State.{State}
+use Rattle.protocol.specs.Held.{held-by}
+use Rattle.protocol.specs.State.{State}
 use Rattle.cluster.specs.declared.cluster.Cluster.{Cluster}
-use Rattle.cluster.specs.declared.inner.Inner.{Inner}
-
--- by the rule's number of seats and quorums, the rotation's leaders, and the rest
-abbrev pub held-by : ℕ → (ℕ → Bool) → (ℕ → ℕ) → Inner → State
-held-by n quorum leads inner =
-    record {
-      design = design n quorum leads (inner .«open_set» .bits);
-      blocks = vec-items (inner .book .blocks);
-      letters = vec-items (inner .book .letters);
-      seats = inner .seats;
-    }
 
 -- what a rule, a rotation and an open set are to the definitions
 abbrev pub design-of : {R T : Type 0} → QuorumRule.Ghosts R → Rotation.Ghosts T → R → T → ℕ → Design

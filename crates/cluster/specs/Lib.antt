@@ -1,8 +1,3 @@
-pub mod Calls
 pub mod Held
-pub mod Marked
 pub mod Opening
-pub mod Safety
-pub mod Seated
-pub mod State
 pub mod Told

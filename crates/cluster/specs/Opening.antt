@@ -12,8 +12,8 @@ use Rattle.quorum.specs.Seats.{within}
 use Rattle.refusal.specs.Reasons.{Reason, NoneApplies, replied}
 use Rattle.refusal.specs.declared.Refusal.{Refusal}
 use Rattle.refusal.specs.declared.Refusal.the-variants.{SeatCountsDiffer, UnknownSeatInSet, NoMemory}
-use Rattle.cluster.specs.Safety.{Safe, ProposalsStand}
-use Rattle.cluster.specs.State.{State}
+use Rattle.protocol.specs.Safety.{Safe, ProposalsStand}
+use Rattle.protocol.specs.State.{State}
 
 -- rule and rotation tell n and m seats; the open set has a seat that there is not
 abbrev pub open-reasons : ℕ → ℕ → ℕ → List Reason

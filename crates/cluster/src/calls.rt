@@ -1,12 +1,12 @@
 // The six calls. A refused call leaves the cluster exactly as it was.
 ghost use mathlib.Core.Path.{_≡_};
-ghost use Rattle.cluster.specs.Calls.{reply, after};
+ghost use Rattle.protocol.specs.Calls.{reply, after};
 ghost use Rattle.cluster.specs.Held.{state-of};
-ghost use Rattle.cluster.specs.declared.call.Call.the-variants.{Fast, Slow, Show, Expire, Vote, Letter as Write};
-use crate::call::Call;
+ghost use Rattle.protocol.specs.declared.call.Call.the-variants.{Fast, Slow, Show, Expire, Vote, Letter as Write};
 use crate::cluster::Cluster;
 use book::block::Letter;
 use book::block::Proposal;
+use protocol::call::Call;
 use quorum::rule::QuorumRule;
 use refusal::Refusal;
 use rotation::turns::Rotation;
@@ -33,10 +33,7 @@ impl<R: QuorumRule, T: Rotation> Cluster<R, T> {
         ensures reply { λ r. ⌜ r ≡ reply (state-of R·QuorumRule T·Rotation (now (self .entry))) (Show seat block) ⌝ }
         ensures after { λ _. ⌜ state-of R·QuorumRule T·Rotation (now (self .exit)) ≡ after (state-of R·QuorumRule T·Rotation (now (self .entry))) (Show seat block) ⌝ }
     {
-        if seat >= self.rule.seats() {
-            return Err(Refusal::NoSuchSeat);
-        }
-        self.inner.show(seat, block)
+        self.inner.show(&self.rule, seat, block)
     }
 
     // A kept seat leaves its view for a later one, and a letter names its last vote. Gives that block.
@@ -44,10 +41,7 @@ impl<R: QuorumRule, T: Rotation> Cluster<R, T> {
         ensures reply { λ r. ⌜ r ≡ reply (state-of R·QuorumRule T·Rotation (now (self .entry))) (Expire seat view) ⌝ }
         ensures after { λ _. ⌜ state-of R·QuorumRule T·Rotation (now (self .exit)) ≡ after (state-of R·QuorumRule T·Rotation (now (self .entry))) (Expire seat view) ⌝ }
     {
-        if seat >= self.rule.seats() {
-            return Err(Refusal::NoSuchSeat);
-        }
-        self.inner.expire(seat, view)
+        self.inner.expire(&self.rule, seat, view)
     }
 
     // An open seat votes for a block. Gives the number of voters.
@@ -55,10 +49,7 @@ impl<R: QuorumRule, T: Rotation> Cluster<R, T> {
         ensures reply { λ r. ⌜ r ≡ reply (state-of R·QuorumRule T·Rotation (now (self .entry))) (Vote seat block) ⌝ }
         ensures after { λ _. ⌜ state-of R·QuorumRule T·Rotation (now (self .exit)) ≡ after (state-of R·QuorumRule T·Rotation (now (self .entry))) (Vote seat block) ⌝ }
     {
-        if seat >= self.rule.seats() {
-            return Err(Refusal::NoSuchSeat);
-        }
-        self.inner.vote(seat, block)
+        self.inner.vote(&self.rule, seat, block)
     }
 
     // An open seat writes a letter. Gives the number of letters.
@@ -66,10 +57,7 @@ impl<R: QuorumRule, T: Rotation> Cluster<R, T> {
         ensures reply { λ r. ⌜ r ≡ reply (state-of R·QuorumRule T·Rotation (now (self .entry))) (Write letter) ⌝ }
         ensures after { λ _. ⌜ state-of R·QuorumRule T·Rotation (now (self .exit)) ≡ after (state-of R·QuorumRule T·Rotation (now (self .entry))) (Write letter) ⌝ }
     {
-        if letter.seat >= self.rule.seats() {
-            return Err(Refusal::NoSuchSeat);
-        }
-        self.inner.letter(letter)
+        self.inner.letter(&self.rule, letter)
     }
 
     // Any of these calls, as a value.

@@ -1,5 +1,5 @@
 // The cluster.
-use crate::inner::Inner;
+use protocol::inner::Inner;
 
 // A quorum rule, a rotation, a book and seats.
 #[derive(Drop)]

@@ -2,10 +2,10 @@
 ghost use mathlib.Core.Path.{_≡_};
 ghost use Rattle.cluster.specs.Held.{design-of, state-of};
 ghost use Rattle.cluster.specs.Opening.{open-reasons, Opening, Opened, SafeIf};
-ghost use Rattle.cluster.specs.State.{fresh};
+ghost use Rattle.protocol.specs.State.{fresh};
 use crate::cluster::Cluster;
-use crate::inner::Inner;
 use book::pages::Book;
+use protocol::inner::Inner;
 use quorum::rule::QuorumRule;
 use quorum::seats::SeatSet;
 use refusal::Refusal;

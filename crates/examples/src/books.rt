@@ -1,4 +1,6 @@
 // Small books of four seats, of which seat 3 is open; view v is led by seat v mod 4.
+use book::block::Block;
+use book::block::Kind;
 use book::block::Letter;
 use book::block::Proposal;
 use book::pages::Book;
@@ -101,10 +103,40 @@ fn write(book: &mut Book, view: u32, named: [u32; 3]) -> Result<(), Fail> {
     Ok(())
 }
 
+fn block(book: &Book, number: u32) -> Result<&Block, Fail> {
+    Ok(book.find(number).ok_or("no such block")?)
+}
+
 // A block's certificate and commit point.
-fn points(book: &Book, block: u32, certificate: u32, commit: u32) -> Result<(), Fail> {
-    check_eq(book.certificate(block), Some(certificate))?;
-    check_eq(book.commit_point(block), Some(commit))
+fn points(book: &Book, number: u32, certificate: u32, commit: u32) -> Result<(), Fail> {
+    let block = block(book, number)?;
+    check_eq(block.certificate, certificate)?;
+    check_eq(block.commit, commit)
+}
+
+// What seats reported to a block.
+fn reports(book: &Book, number: u32, told: &[(u8, Option<u32>)]) -> Result<(), Fail> {
+    let block = block(book, number)?;
+    for &(seat, report) in told {
+        check_eq(block.report(seat), report)?;
+    }
+    Ok(())
+}
+
+// The voters of blocks.
+fn voters(book: &Book, told: &[(u32, u64)]) -> Result<(), Fail> {
+    for &(number, bits) in told {
+        check_eq(block(book, number)?.voters.bits, bits)?;
+    }
+    Ok(())
+}
+
+// The ranks of blocks.
+fn ranks(book: &Book, told: &[(u32, (u32, u32))]) -> Result<(), Fail> {
+    for &(number, rank) in told {
+        check_eq(book.rank(number), Some(rank))?;
+    }
+    Ok(())
 }
 
 // Block 1 of view 1 and, on the votes of 0, 1 and 2 for it, block 2 of view 2.
@@ -159,43 +191,40 @@ fn clashing(heap: Global) -> Result<Book, Fail> {
 fn the_first_block(rt: LibcRuntime) -> Result<(), Fail> {
     let book = Book::new(rt.alloc(), 4)?;
     check(book.blocks() == 1 && book.letters() == 0)?;
-    check_eq(book.view(0), Some(0))?;
-    check_eq(book.payload(0), Some(0))?;
-    check_eq(book.height(0), Some(0))?;
-    check_eq(book.voters(0).ok_or("no block 0")?.bits, 15)?;
-    check(!book.kind(0).ok_or("no block 0")?.is_slow())?;
-    check(book.parent(0).is_none() && book.maker(0).is_none() && book.heard(0).is_none())?;
-    points(&book, 0, 0, 0)?;
+    first(block(&book, 0)?)?;
     check_eq(book.rank(0), Some((0, 0)))?;
-    check_eq(book.report(0, 0), None)?;
     check_eq(book.highest_view(), Some(0))
+}
+
+fn first(block: &Block) -> Result<(), Fail> {
+    check_eq((block.view, block.payload, block.height), (0, 0, 0))?;
+    check_eq(
+        (block.certificate, block.commit, block.voters.bits),
+        (0, 0, 15),
+    )?;
+    check(matches!(block.kind, Kind::First) && block.report(0).is_none())?;
+    check(block.parent().is_none() && block.maker().is_none() && block.heard().is_none())
 }
 
 #[test]
 fn no_block_is_told_of_before_it_enters(rt: LibcRuntime) -> Result<(), Fail> {
     let book = Book::new(rt.alloc(), 4)?;
-    check(book.view(1).is_none() && book.payload(1).is_none() && book.height(1).is_none())?;
-    check(book.kind(1).is_none() && book.voters(1).is_none() && book.parent(1).is_none())?;
-    check(book.maker(1).is_none() && book.heard(1).is_none() && book.rank(1).is_none())?;
-    check(book.certificate(1).is_none() && book.commit_point(1).is_none())?;
-    check(book.report(1, 0).is_none())?;
+    check(book.find(1).is_none() && book.rank(1).is_none() && book.on_chain(1, 0).is_none())?;
     check(book.stands_on(1, 0).is_none() && book.stands_on(0, 1).is_none())
 }
 
 #[test]
 fn parts_of_a_block(rt: LibcRuntime) -> Result<(), Fail> {
     let book = two(rt.alloc())?;
-    check_eq(book.blocks(), 3)?;
-    check_eq(book.view(2), Some(2))?;
-    check_eq(book.parent(2), Some(1))?;
-    check_eq(book.payload(2), Some(1002))?;
-    check_eq(book.maker(2), Some(2))?;
-    check_eq(book.height(2), Some(2))?;
-    check(!book.kind(2).ok_or("no block 2")?.is_slow())?;
-    check_eq(book.heard(2).ok_or("no block 2")?.bits, 7)?;
-    check_eq(book.voters(2).ok_or("no block 2")?.bits, 0)?;
-    check_eq(book.voters(1).ok_or("no block 1")?.bits, 7)?;
-    check_eq(book.report(2, 0), None)
+    second(block(&book, 2)?)?;
+    voters(&book, &[(1, 7), (2, 0)])
+}
+
+fn second(block: &Block) -> Result<(), Fail> {
+    check_eq((block.view, block.payload, block.height), (2, 1002, 2))?;
+    check(matches!(block.kind, Kind::Fast) && block.report(0).is_none())?;
+    check_eq((block.parent(), block.maker()), (Some(1), Some(2)))?;
+    check_eq(block.heard().ok_or("none heard")?.bits, 7)
 }
 
 #[test]
@@ -214,8 +243,7 @@ fn votes(rt: LibcRuntime) -> Result<(), Fail> {
         &mut book,
         &[(Step::Vote(0, 3), 4), (Step::Vote(0, u32::MAX), 4)],
     )?;
-    check_eq(book.voters(1).ok_or("no block 1")?.bits, 15)?;
-    check_eq(book.voters(2).ok_or("no block 2")?.bits, 4)
+    voters(&book, &[(1, 15), (2, 4)])
 }
 
 #[test]
@@ -292,14 +320,14 @@ fn fast_blocks_certify_their_parents(rt: LibcRuntime) -> Result<(), Fail> {
     points(&book, 1, 0, 0)?;
     points(&book, 2, 1, 0)?;
     points(&book, 3, 2, 1)?;
-    check_eq(book.rank(3), Some((3, 2)))
+    ranks(&book, &[(3, (3, 2))])
 }
 
 #[test]
 fn a_slow_block_inherits(rt: LibcRuntime) -> Result<(), Fail> {
     let mut book = two_and_slow(rt.alloc())?;
     points(&book, 3, 1, 0)?;
-    check_eq(book.rank(3), Some((3, 1)))?;
+    ranks(&book, &[(3, (3, 1))])?;
     elect(&mut book, 3)?;
     accepts(&mut book, &[(Step::Fast(4, 3, 7), 4)])?;
     points(&book, 4, 3, 1)
@@ -308,13 +336,19 @@ fn a_slow_block_inherits(rt: LibcRuntime) -> Result<(), Fail> {
 #[test]
 fn reports_told(rt: LibcRuntime) -> Result<(), Fail> {
     let book = two_and_slow(rt.alloc())?;
-    check(book.kind(3).ok_or("no block 3")?.is_slow())?;
-    check_eq(book.report(3, 0), Some(2))?;
-    check_eq(book.report(3, 1), Some(2))?;
-    check_eq(book.report(3, 2), Some(1))?;
-    // not heard, and no seat
-    check_eq(book.report(3, 3), None)?;
-    check_eq(book.report(3, 66), None)
+    check(block(&book, 3)?.kind.is_slow())?;
+    // seat 3 was not heard, and there is no seat 66
+    reports(
+        &book,
+        3,
+        &[
+            (0, Some(2)),
+            (1, Some(2)),
+            (2, Some(1)),
+            (3, None),
+            (66, None),
+        ],
+    )
 }
 
 #[test]
@@ -373,9 +407,7 @@ fn the_latest_letter_is_reported(rt: LibcRuntime) -> Result<(), Fail> {
     write(&mut book, 4, [0, 0, 0])?;
     write(&mut book, 3, [2, 1, 1])?;
     accepts(&mut book, &[(Step::Slow(3, 2, 7), 3)])?;
-    check_eq(book.report(3, 0), Some(2))?;
-    check_eq(book.report(3, 1), Some(1))?;
-    check_eq(book.report(3, 2), Some(1))
+    reports(&book, 3, &[(0, Some(2)), (1, Some(1)), (2, Some(1))])
 }
 
 // Block 3 is slow and block 4 fast, both of view 3; the views of their certificates decide.
@@ -388,8 +420,7 @@ fn certificates_decide_between_equal_views(rt: LibcRuntime) -> Result<(), Fail> 
         &mut book,
         &[(Step::Slow(3, 1, 7), 3), (Step::Fast(3, 2, 7), 4)],
     )?;
-    check_eq(book.rank(3), Some((3, 1)))?;
-    check_eq(book.rank(4), Some((3, 2)))?;
+    ranks(&book, &[(3, (3, 1)), (4, (3, 2))])?;
     write(&mut book, 5, [3, 3, 4])?;
     refuses(&mut book, &[(Step::Slow(5, 3, 7), 15)])?;
     accepts(&mut book, &[(Step::Slow(5, 4, 7), 5)])
@@ -405,8 +436,7 @@ fn the_view_decides_first(rt: LibcRuntime) -> Result<(), Fail> {
         &mut book,
         &[(Step::Fast(3, 2, 7), 3), (Step::Slow(4, 1, 7), 4)],
     )?;
-    check_eq(book.rank(3), Some((3, 2)))?;
-    check_eq(book.rank(4), Some((4, 0)))?;
+    ranks(&book, &[(3, (3, 2)), (4, (4, 0))])?;
     write(&mut book, 5, [3, 4, 4])?;
     refuses(&mut book, &[(Step::Slow(5, 3, 7), 15)])?;
     accepts(&mut book, &[(Step::Slow(5, 4, 7), 5)])
@@ -531,14 +561,24 @@ fn rule_and_rotation_are_asked(rt: LibcRuntime) -> Result<(), Fail> {
     let rule = WeightRule::new([5, 1, 1].to_vec(heap)?)?;
     let turns = Listed::new(3, [2, 0].to_vec(heap)?)?;
     let mut book = Book::new(heap, 3)?;
+    asked(&mut book, &rule, &turns)
+}
+
+fn asked(book: &mut Book, rule: &WeightRule, turns: &Listed) -> Result<(), Fail> {
     let nobody = SeatSet { bits: 0 };
-    match book.fast(&rule, &turns, nobody, &proposal(1, 0, 6)) {
+    match book.fast(rule, turns, nobody, &proposal(1, 0, 6)) {
         Ok(_) => return Err(Fail::new("seats 1 and 2 are no quorum")),
         Err(refusal) => check_eq(refusal.number(), 13)?,
     }
-    check_eq(book.fast(&rule, &turns, nobody, &proposal(1, 0, 1))?, 1)?;
+    check_eq(book.fast(rule, turns, nobody, &proposal(1, 0, 1))?, 1)?;
     check_eq(book.add_vote(0, 1)?, 1)?;
-    check_eq(book.fast(&rule, &turns, nobody, &proposal(2, 1, 1))?, 2)?;
-    check_eq(book.maker(1), Some(2))?;
-    check_eq(book.maker(2), Some(0))
+    check_eq(book.fast(rule, turns, nobody, &proposal(2, 1, 1))?, 2)?;
+    makers(book, &[(1, 2), (2, 0)])
+}
+
+fn makers(book: &Book, told: &[(u32, u8)]) -> Result<(), Fail> {
+    for &(number, seat) in told {
+        check_eq(block(book, number)?.maker(), Some(seat))?;
+    }
+    Ok(())
 }

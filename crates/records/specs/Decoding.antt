@@ -14,8 +14,8 @@ use Rattle.refusal.specs.Reasons.{Reason, replied}
 use Rattle.refusal.specs.declared.Refusal.{Refusal}
 use Rattle.refusal.specs.declared.Refusal.the-variants.{RecordCutShort, RecordKindUnknown, SpareByteNotZero}
 use Rattle.book.specs.declared.block.Proposal.{Proposal}
-use Rattle.cluster.specs.declared.call.Call.{Call}
-use Rattle.cluster.specs.declared.call.Call.the-variants.{Fast as FastCall, Slow as SlowCall, Show as ShowCall, Expire as ExpireCall, Vote as VoteCall, Letter as LetterCall}
+use Rattle.protocol.specs.declared.call.Call.{Call}
+use Rattle.protocol.specs.declared.call.Call.the-variants.{Fast as FastCall, Slow as SlowCall, Show as ShowCall, Expire as ExpireCall, Vote as VoteCall, Letter as LetterCall}
 use Rattle.records.specs.declared.record.Kind.{Kind}
 use Rattle.records.specs.declared.record.Kind.the-variants.{Open, Fast, Slow, Show, Expire, Vote, Letter}
 use Rattle.records.specs.declared.record.Record.{Record}

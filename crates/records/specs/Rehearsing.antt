@@ -19,10 +19,10 @@ use Rattle.refusal.specs.declared.Refusal.the-variants.{UnknownSeatInSet, Fault
 use Rattle.rotation.specs.Robin.{robin-leads}
 use Rattle.rotation.specs.declared.robin.RoundRobin.{RoundRobin}
 use Rattle.book.specs.Admission.{Design, design}
-use Rattle.cluster.specs.Calls.{reply, after}
-use Rattle.cluster.specs.Held.{held-by}
+use Rattle.protocol.specs.Calls.{reply, after}
+use Rattle.protocol.specs.Held.{held-by}
 use Rattle.cluster.specs.Opening.{Opening}
-use Rattle.cluster.specs.State.{State, fresh}
+use Rattle.protocol.specs.State.{State, fresh}
 use Rattle.cluster.specs.declared.cluster.Cluster.{Cluster}
 use Rattle.records.specs.declared.record.Record.{Record}
 use Rattle.records.specs.declared.record.Record.the-variants.{Open as OpenRecord, Call as CallRecord}

@@ -7,7 +7,7 @@ use crate::record::Kind;
 use crate::record::Record;
 use book::block::Letter;
 use book::block::Proposal;
-use cluster::call::Call;
+use protocol::call::Call;
 use quorum::seats::SeatSet;
 use refusal::Refusal;
 

@@ -1,6 +1,6 @@
 // What a record says.
 ghost use mathlib.Core.Path.{_≡_};
-use cluster::call::Call;
+use protocol::call::Call;
 use quorum::seats::SeatSet;
 
 // The kinds of records, each known by its letter.

@@ -2,7 +2,7 @@
 ghost use mathlib.Core.Bool.{true, false};
 ghost use mathlib.Core.Path.{_≡_};
 ghost use Rattle.cluster.specs.Opening.{Opening};
-ghost use Rattle.cluster.specs.State.{fresh};
+ghost use Rattle.protocol.specs.State.{fresh};
 ghost use Rattle.std.specs.declared.option.Option.the-variants.{None};
 ghost use Rattle.records.specs.Rehearsing.{rehearsed, rehearse-reasons, state-in, Opens, Plays};
 use crate::record::Record;

@@ -54,6 +54,18 @@ module _ {X : Type 0} where
   passed-value (r ∷ rs) z x p = passed-value rs z x (first-passed r rs z x p .1)
 
 module _ {X Y : Type 0} where
+  -- the same reasons let through, or refuse, whatever is offered
+  pub passed-as : (rs : List Reason) (z x : X) (y : Y) → Ok z ≡ replied rs x → replied rs y ≡ Ok y
+  passed-as rs z x y p = none-refused rs y (none-applies rs z x p)
+
+  pub refused-as : (rs : List Reason) (e : Refusal) (x : X) (y : Y) → Err e ≡ replied rs x → replied rs y ≡ Err e
+  refused-as [] e x y p = absurd (ok-not-err (Ok x) x e refl (sym p))
+  refused-as (r ∷ rs) e x y p = split (r .0) p (refused-as rs e x y)
+    where
+      split : (b : Bool) → Err e ≡ cond b (Err (r .1)) (replied rs x) → (Err e ≡ replied rs x → replied rs y ≡ Err e) → cond b (Err (r .1)) (replied rs y) ≡ Err e
+      split true q rest = let same : e ≡ r .1 = cc in ap Err (sym same)
+      split false q rest = rest q
+
   -- more reasons behind a list that lets something through, or that refuses
   pub replied-past : (rs qs : List Reason) (z x : X) (y : Y) → Ok z ≡ replied rs x → replied (rs ++ qs) y ≡ replied qs y
   replied-past [] qs z x y p = refl

@@ -27,7 +27,7 @@ fn seats_for(faults: u8) -> Result<u32, Refusal> {
 // Adds blocks of view 3, whose leader is open, until there are so many.
 pub fn fill_blocks(c: &mut Four, count: u32) -> Result<(), Refusal> {
     for _ in 0..256u32 {
-        if c.blocks() >= count {
+        if c.book().blocks() >= count {
             break;
         }
         c.fast(proposal(3, 2, 7))?;
@@ -45,7 +45,7 @@ fn word() -> Letter {
 
 pub fn fill_letters(c: &mut Four, count: u32) -> Result<(), Refusal> {
     for _ in 0..512u32 {
-        if c.letters() >= count {
+        if c.book().letters() >= count {
             break;
         }
         c.letter(word())?;

@@ -4,8 +4,8 @@ use crate::FaultFromIo;
 use crate::FaultFromRefusal;
 use book::block::Letter;
 use book::block::Proposal;
-use cluster::call::Call;
 use cluster::cluster::Cluster;
+use protocol::call::Call;
 use quorum::count::CountRule;
 use quorum::count::CountRuleQuorum;
 use quorum::rule::QuorumRule;
@@ -87,9 +87,10 @@ fn enters(
     commit: u32,
 ) -> Result<(), Fault> {
     let given = cluster.call(call)?;
-    let (Some(c), Some(p)) = (cluster.certificate(given), cluster.commit_point(given)) else {
+    let Some(entered) = cluster.book().find(given) else {
         return Err(Fault::Refused(Refusal::NoSuchBlock));
     };
+    let (c, p) = (entered.certificate, entered.commit);
     println!(
         rt,
         "{name}  block {given}, certificate {c}, commit point {p}  (expected {block}, {certificate}, {commit})"

@@ -1,7 +1,0 @@
-use Rattle.cluster.proofs.Seating.{seated-grown}
-use Rattle.cluster.proofs.inner.Inner.fast.Needs as need
-
-pub ghost-self : need.ghost-self
-ghost-self g c =
-    let now = seated-grown (c .args .self .now) _ _ _ (c .fast .ensures .blocks) in
-    (now .votes, (now .tips, (now .views, tt)))

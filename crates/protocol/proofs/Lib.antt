@@ -1,0 +1,7 @@
+mod Examples
+mod Invariant
+mod Keeping
+mod Outcomes
+mod Runs
+pub mod Seating
+pub mod Theorem
