@@ -22,7 +22,7 @@ use Rattle.book.specs.Promises.{FastAdmission, SlowAdmission}
 use Rattle.book.specs.Rules.{JustifiedFast, JustifiedSlow, Unbarred, WellMade}
 use Rattle.book.specs.declared.block.Block.{Block}
 use Rattle.book.specs.declared.block.Kind.the-variants.{Fast as FastKind, Slow as SlowKind}
-use Rattle.book.specs.declared.block.Letter.{Letter}
+use Rattle.letters.specs.declared.letter.Letter.{Letter}
 use Rattle.book.specs.declared.block.Proposal.{Proposal}
 use Rattle.book.proofs.Entries.{can-enter, slow-certificate-held}
 use Rattle.book.proofs.Growth.{known-push, no-report}

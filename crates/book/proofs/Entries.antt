@@ -25,7 +25,7 @@ use Rattle.book.specs.Known.{Known, Enters}
 use Rattle.book.specs.Pages.{at, stands}
 use Rattle.book.specs.declared.block.Block.{Block}
 use Rattle.book.specs.declared.block.Kind.{Kind}
-use Rattle.book.specs.declared.block.Letter.{Letter}
+use Rattle.letters.specs.declared.letter.Letter.{Letter}
 use Rattle.book.specs.declared.block.Proposal.{Proposal}
 use Rattle.book.proofs.Chains.{stands-within}
 

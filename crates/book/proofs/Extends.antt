@@ -22,7 +22,7 @@ use Rattle.book.specs.Known.{Known, ParentsBefore}
 use Rattle.book.specs.Pages.{genesis, at}
 use Rattle.book.specs.Rules.{model, Certified, SlowMade}
 use Rattle.book.specs.declared.block.Block.{Block}
-use Rattle.book.specs.declared.block.Letter.{Letter}
+use Rattle.letters.specs.declared.letter.Letter.{Letter}
 use Rattle.book.proofs.Chains.{later-positive}
 use Rattle.book.proofs.Growth.{at-old}
 

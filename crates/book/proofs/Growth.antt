@@ -14,7 +14,7 @@ use Rattle.book.specs.Changes.{voted}
 use Rattle.book.specs.Known.{Known, Enters}
 use Rattle.book.specs.Pages.{no-reports, genesis, at, letter-at}
 use Rattle.book.specs.declared.block.Block.{Block}
-use Rattle.book.specs.declared.block.Letter.{Letter}
+use Rattle.letters.specs.declared.letter.Letter.{Letter}
 use Rattle.book.specs.declared.pages.Book.{Book}
 use Rattle.book.proofs.Views.{zeros}
 

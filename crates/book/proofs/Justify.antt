@@ -21,17 +21,18 @@ use Rattle.refusal.proofs.Replies.{none-applies, none-refused}
 use Rattle.refusal.specs.Reasons.{NoneApplies, replied}
 use Rattle.rotation.specs.Turns.{is-view, IsView, last-view}
 use Rattle.safety.specs.Book.{RanksWithin}
+use Rattle.letters.proofs.Searches.{any-below-some, any-below-not, any-below-found, any-below-none}
 use Rattle.book.specs.Admission.{Design, any-below, certificate-view, has-view, shared-reasons, fast-reasons, slow-reasons, fast-reply, slow-reply, outranks, silent, no-letter, latest, report-of, reports-of, reports-it, reports-higher, unfit}
 use Rattle.book.specs.Known.{Known}
 use Rattle.book.specs.Pages.{at}
 use Rattle.book.specs.Rules.{model, KeptSeat, JustifiedFast, LatestLetter, JustifiedSlow, Unbarred}
 use Rattle.book.specs.declared.block.Block.{Block}
-use Rattle.book.specs.declared.block.Letter.{Letter}
+use Rattle.letters.specs.declared.letter.Letter.{Letter}
 use Rattle.book.specs.declared.block.Proposal.{Proposal}
 use Rattle.book.proofs.Entries.{Screened, screened}
-use Rattle.book.proofs.Reflect.{true-from, from-true, not-from}
-use Rattle.book.proofs.Reports.{any-below-some, any-below-not, letter-of, heard-report, report-at, latest-letter, letter-latest}
-use Rattle.book.proofs.Tests.{any-below-found, any-below-none}
+use Rattle.letters.proofs.Truth.{true-from, from-true}
+use Rattle.book.proofs.Reflect.{not-from}
+use Rattle.book.proofs.Reports.{letter-of, heard-report, report-at, latest-letter, letter-latest}
 use Rattle.book.proofs.Views.{has-view-found, has-view-none}
 
 -- the reasons that both kinds share, one way and the other

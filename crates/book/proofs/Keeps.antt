@@ -26,15 +26,16 @@ use Rattle.book.specs.Rules.{model, JustifiedFast, LatestLetter, JustifiedSlow
 use Rattle.book.specs.declared.block.Block.{Block}
 use Rattle.book.specs.declared.block.Kind.{Kind}
 use Rattle.book.specs.declared.block.Kind.the-variants.{Fast as FastKind, Slow as SlowKind}
-use Rattle.book.specs.declared.block.Letter.{Letter}
+use Rattle.letters.specs.declared.letter.Letter.{Letter}
 use Rattle.book.specs.declared.block.Proposal.{Proposal}
 use Rattle.book.proofs.Chains.{stands-within}
 use Rattle.book.proofs.Entries.{slow-certificate-held}
 use Rattle.book.proofs.Extends.{Extends, extends-push, extends-vote, stands-up, stands-down, no-clash-up, no-clash-down, fast-up, slow-up, commit-up}
 use Rattle.book.proofs.Growth.{at-old, at-new, old-or-new}
-use Rattle.book.proofs.Named.{one-report, named-is, is-named, names}
+use Rattle.letters.proofs.Named.{one-report, named-is, is-named, names}
 use Rattle.book.proofs.Reports.{latest-held, letter-latest, heard-report}
-use Rattle.book.proofs.Reflect.{true-from, from-true, stands-relates, relates-stands, good-told, good-tested}
+use Rattle.letters.proofs.Truth.{true-from, from-true}
+use Rattle.book.proofs.Reflect.{stands-relates, relates-stands, good-told, good-tested}
 
 -- The heard seats of a book's blocks are real.
 seats-heard :

@@ -6,7 +6,6 @@ pub mod Extends
 pub mod Growth
 pub mod Justify
 pub mod Keeps
-pub mod Named
 pub mod Ranks
 pub mod Reflect
 pub mod Reports

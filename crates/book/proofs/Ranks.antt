@@ -15,10 +15,10 @@ use Rattle.std.specs.declared.cmp.Ordering.{Ordering}
 use Rattle.std.specs.declared.cmp.Ordering.the-variants.{Less, Equal, Greater}
 use Rattle.std.specs.declared.option.Option.the-variants.{Some}
 use Rattle.highest.specs.Row.{above, FirstHighest}
+use Rattle.letters.proofs.Searches.{any-below-found, any-below-none}
 use Rattle.book.specs.Admission.{any-below, certificate-view, outranks, rank-of}
 use Rattle.book.specs.Pages.{at}
 use Rattle.book.specs.declared.block.Block.{Block}
-use Rattle.book.proofs.Tests.{any-below-found, any-below-none}
 
 -- the first numbers decide, and the second where those are equal
 decided : (a b c d : Bool) → isLt (thenBy (cond a Less (cond b Equal Greater)) (cond c Less (cond d Equal Greater))) ≡ (a || (b && c))

@@ -12,23 +12,16 @@ use lib.ListN.{length, getD}
 use Rattle.std.proofs.shelf.Tests.{and-parts, and-from, and-cases, and-left, and-right, or-cases, or-left, or-right, or-from, or-parts, both-ways, not-true, not-false, not-from-false, not-from-true, cases-bool, eqb-true, eqb-false, eq-eqb, ne-eqb, lt-ltb, ltb-true, le-ltb}
 use Rattle.quorum.specs.Seats.{held, Holds}
 use Rattle.safety.specs.Book.{Book, Made, StandsOn, self, up, Slow, NoClash, Good}
+use Rattle.letters.proofs.Searches.{any-below-some, any-below-not, any-below-found, any-below-none}
+use Rattle.letters.proofs.Truth.{true-from, from-true}
 use Rattle.book.specs.Admission.{Design, any-below, any-of, conflict, rival, told-rival, heard-rival, clashes, good}
 use Rattle.book.specs.Kinds.{is-slow}
 use Rattle.book.specs.Known.{Known, ParentsBefore}
 use Rattle.book.specs.Pages.{at, chain, among, stands}
 use Rattle.book.specs.Rules.{model}
 use Rattle.book.specs.declared.block.Block.{Block}
-use Rattle.book.specs.declared.block.Letter.{Letter}
+use Rattle.letters.specs.declared.letter.Letter.{Letter}
 use Rattle.book.proofs.Chains.{stands-step, stands-self, stands-within, later-positive}
-use Rattle.book.proofs.Reports.{any-below-some, any-below-not}
-use Rattle.book.proofs.Tests.{any-below-found, any-below-none}
-
-pub true-from : (b : Bool) → T b → b ≡ true
-true-from true t = refl
-true-from false t = absurd t
-
-pub from-true : (b : Bool) → b ≡ true → T b
-from-true b e = subst T (sym e) tt
 
 pub not-from : (b : Bool) → b ≡ false → T b → ⊥
 not-from b e t = subst T e t

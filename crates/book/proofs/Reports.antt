@@ -16,80 +16,13 @@ use Rattle.std.specs.Options.{isSome, valueOr}
 use Rattle.std.specs.declared.option.Option.{Option}
 use Rattle.std.specs.declared.option.Option.the-variants.{Some, None}
 use Rattle.quorum.specs.Seats.{held}
+use Rattle.letters.proofs.Searches.{any-below-found, any-below-some, any-below-not, any-below-same, last-is, last-at}
 use Rattle.book.specs.Admission.{any-below, last-below, written, latest, no-letter, report-of, reports-of, silent, reports-it, reports-higher, outranks, certificate-view}
 use Rattle.book.specs.Known.{Known}
 use Rattle.book.specs.Pages.{at, letter-at}
 use Rattle.book.specs.Rules.{LatestLetter}
 use Rattle.book.specs.declared.block.Block.{Block}
-use Rattle.book.specs.declared.block.Letter.{Letter}
-use Rattle.book.proofs.Tests.{any-below-found}
-
--- tests over seats, read back
-
-pub any-below-some : (p : ℕ → Bool) (n : ℕ) → any-below p n ≡ true → (k : ℕ) × (k < n) × (p k ≡ true)
-unfolding any-below
-any-below-some p zero e = absurd (both-ways false refl e)
-any-below-some p (suc n) e =
-    elim (or-cases (p n) (any-below p n) e) [
-      | inl here ↦ (n, omega arith, here)
-      | inr below ↦ let (k, h, t) = any-below-some p n below in (k, omega arith, t)
-    ]
-
-pub any-below-not : (p : ℕ → Bool) (n : ℕ) → any-below p n ≡ false → (k : ℕ) → k < n → p k ≡ false
-any-below-not p n e k h =
-    elim (cases-bool (p k)) [ inl t ↦ absurd (both-ways (any-below p n) e (any-below-found p n k h t)) | inr f ↦ f ]
-
-pub any-below-same : (p q : ℕ → Bool) (n : ℕ) → ((k : ℕ) → k < n → p k ≡ q k) → any-below p n ≡ any-below q n
-unfolding any-below
-any-below-same p q zero f = refl
-any-below-same p q (suc n) f = ap₂ _||_ (f n (omega arith)) (any-below-same p q n (λ k h. f k (omega arith)))
-
--- what a search from the last place down has found: a place that passes, and none after it does
-pub last-is :
-    (p : ℕ → Bool) (f : ℕ → ℕ) (n x : ℕ) → last-below p f n ≡ Some x →
-    (i : ℕ) × (i < n) × (p i ≡ true) × (f i ≡ x) × ((j : ℕ) → i < j → j < n → p j ≡ false)
-unfolding last-below
-last-is p f zero x e = let z : _≡_ {A = ℕ} 0 1 = cc in absurd (omega arith)
-last-is p f (suc n) x e =
-    elim (cases-bool (p n)) [
-      | inl t ↦ (n, omega arith, t, found (ap (λ b. cond b (Some (f n)) (last-below p f n)) (sym t) ∙ e), λ j l h. absurd (omega arith))
-      | inr t ↦
-          let (i, h, pass, is, none) = last-is p f n x (ap (λ b. cond b (Some (f n)) (last-below p f n)) (sym t) ∙ e) in
-          (i, omega arith, pass, is, λ j l k. elim (cases-eq j n) [ inl same ↦ ap p same ∙ t | inr other ↦ none j l (omega arith) ])
-    ]
-  where
-    found : Some (f n) ≡ Some x → f n ≡ x
-    found q = cc
-
--- and such a place is what it finds
-pub last-at :
-    (p : ℕ → Bool) (f : ℕ → ℕ) (n i : ℕ) → i < n → p i ≡ true → ((j : ℕ) → i < j → j < n → p j ≡ false) → last-below p f n ≡ Some (f i)
-unfolding last-below
-last-at p f zero i h t none = absurd (omega arith)
-last-at p f (suc n) i h t none =
-    elim (cases-eq i n) [
-      | inl same ↦ ap (λ b. cond b (Some (f n)) (last-below p f n)) (ap p (sym same) ∙ t) ∙ ap (λ k. Some (f k)) (sym same)
-      | inr other ↦
-          ap (λ b. cond b (Some (f n)) (last-below p f n)) (none n (omega arith) (omega arith))
-          ∙ last-at p f n i (omega arith) t (λ j l k. none j l (omega arith))
-    ]
-
--- a search that finds nothing passes no place
-pub last-nowhere : (p : ℕ → Bool) (f : ℕ → ℕ) (n : ℕ) → last-below p f n ≡ None → (k : ℕ) → k < n → p k ≡ true → ⊥
-unfolding last-below
-last-nowhere p f zero z k h t = omega arith
-last-nowhere p f (suc n) z k h t =
-    elim (cases-bool (p n)) [
-      | inl here ↦
-          let found : Some (f n) ≡ None = ap (λ b. cond b (Some (f n)) (last-below p f n)) (sym here) ∙ z in
-          let w : _≡_ {A = ℕ} 0 1 = cc in
-          omega arith
-      | inr below ↦
-          elim (cases-eq k n) [
-            | inl same ↦ both-ways (p n) below (ap p (sym same) ∙ t)
-            | inr other ↦ last-nowhere p f n (ap (λ b. cond b (Some (f n)) (last-below p f n)) (sym below) ∙ z) k (omega arith) t
-          ]
-    ]
+use Rattle.letters.specs.declared.letter.Letter.{Letter}
 
 -- the latest letter, by the search
 pub latest-letter : (ls : List Letter) (s v b : ℕ) → latest ls s v ≡ Some b → LatestLetter ls s v b

@@ -19,10 +19,14 @@ use Rattle.rotation.specs.Turns.{is-view}
 use Rattle.book.specs.declared.block.Block.{Block}
 use Rattle.book.specs.declared.block.Kind.{Kind}
 use Rattle.book.specs.declared.block.Kind.the-variants.{First, Fast, Slow}
-use Rattle.book.specs.declared.block.Letter.{Letter}
+use Rattle.letters.specs.declared.letter.Letter.{Letter}
 use Rattle.book.specs.declared.block.Proposal.{Proposal}
 use Rattle.book.specs.Kinds.{is-slow}
 use Rattle.book.specs.Pages.{no-reports, at, letter-at, chain, stands}
+unfoldable pub use Rattle.letters.specs.Searches.{any-below, last-below, set-where}
+unfoldable pub use Rattle.letters.specs.Letters.{reports-of}
+pub use Rattle.letters.specs.Letters.{written, latest, no-letter, report-of, silent}
+pub use Rattle.letters.specs.Named.{reports-it, namers, decides-with, named}
 
 -- What a cluster is made from: its number of seats, its quorums, who leads each view, and the open seats.
 pub record Design : Type 0 where
@@ -33,42 +37,6 @@ pub record Design : Type 0 where
 
 abbrev pub design : ℕ → (ℕ → Bool) → (ℕ → ℕ) → ℕ → Design
 design n quorum leads open-set = record { seats = n; quorum = quorum; leads = leads; open-seats = open-set }
-
--- whether a test passes for some seat below n
-unfoldable pub any-below : (ℕ → Bool) → ℕ → Bool
-any-below p zero = false
-any-below p (suc n) = p n || any-below p n
-
--- the value at the last place below n that passes a test
-unfoldable pub last-below : (ℕ → Bool) → (ℕ → ℕ) → ℕ → Option ℕ
-last-below p f zero = None
-last-below p f (suc n) = cond (p n) (Some (f n)) (last-below p f n)
-
--- the seats below n for which a test passes
-unfoldable pub set-where : (ℕ → Bool) → ℕ → ℕ
-set-where p zero = 0
-set-where p (suc n) = union (set-where p n) (cond (p n) (2 ^ n) 0)
-
--- Letters.
-
--- whether a letter is from a seat and for a view
-abbrev pub written : Letter → ℕ → ℕ → Bool
-written l s v = eqb (l .seat) s && eqb (l .view) v
-
--- the block that the latest letter from a seat for a view names
-abbrev pub latest : List Letter → ℕ → ℕ → Option ℕ
-latest ls s v = last-below (λ i. written (letter-at ls i) s v) (λ i. letter-at ls i .block) (length ls)
-
--- a seat is heard and has no letter for the view
-abbrev pub no-letter : List Letter → ℕ → ℕ → ℕ → Bool
-no-letter ls heard v s = held s heard && not (isSome (latest ls s v))
-
--- what a heard seat reports to a block of view v; nothing is asked of the others
-abbrev pub report-of : List Letter → ℕ → ℕ → ℕ → ℕ
-report-of ls heard v s = cond (held s heard) (valueOr (latest ls s v) 0) 0
-
-unfoldable pub reports-of : List Letter → ℕ → ℕ → List ℕ
-reports-of ls heard v = map (report-of ls heard v) (counting 0 64)
 
 -- Rank: by view, then by the certificate's view.
 
@@ -109,14 +77,6 @@ fast-reasons d bs p =
     ∷ (not (eqb (at bs (p .parent) .view + 1) (p .view)), ParentUnfit)
     ∷ []
 
--- a heard seat has no letter for the view
-abbrev pub silent : List Letter → ℕ → ℕ → Bool
-silent ls heard v = any-below (no-letter ls heard v) 64
-
--- seat s is heard and reports exactly this block
-abbrev pub reports-it : List ℕ → ℕ → ℕ → ℕ → Bool
-reports-it reports heard block s = held s heard && eqb (getD reports s 0) block
-
 -- seat s is heard and reports a block that outranks the parent
 abbrev pub reports-higher : List Block → List ℕ → ℕ → ℕ → ℕ → Bool
 reports-higher bs reports heard parent s = held s heard && outranks bs (getD reports s 0) parent
@@ -134,18 +94,6 @@ slow-reasons d bs ls p =
     ∷ []
 
 -- Certificate.
-
--- the heard seats whose report is exactly c
-abbrev pub namers : List ℕ → ℕ → ℕ → ℕ
-namers reports heard c = set-where (reports-it reports heard c) 64
-
--- seat s is heard, and the seats that report the same block as it are a quorum
-abbrev pub decides-with : (ℕ → Bool) → List ℕ → ℕ → ℕ → Bool
-decides-with quorum reports heard s = held s heard && quorum (namers reports heard (getD reports s 0))
-
--- the block that a quorum of the reports names; no two are (see the theorem that there is one at most)
-abbrev pub named : (ℕ → Bool) → List ℕ → ℕ → Option ℕ
-named quorum reports heard = last-below (decides-with quorum reports heard) (λ s. getD reports s 0) 64
 
 -- it is taken if the parent stands on it and its view is above that of the parent's certificate
 abbrev pub taken : List Block → ℕ → Option ℕ → ℕ

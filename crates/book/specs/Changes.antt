@@ -15,7 +15,7 @@ use Rattle.rotation.specs.Turns.{is-view}
 use Rattle.book.specs.Admission.{grown}
 use Rattle.book.specs.Pages.{at}
 use Rattle.book.specs.declared.block.Block.{Block}
-use Rattle.book.specs.declared.block.Letter.{Letter}
+use Rattle.letters.specs.declared.letter.Letter.{Letter}
 
 -- a block with one more voter; nothing else of it ever changes
 abbrev pub voted : ℕ → Block → Block

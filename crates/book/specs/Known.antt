@@ -6,7 +6,7 @@ use Prim.Native.Nat.{ℕ, _≤_, _<_}
 use lib.ListN.{length, getD}
 use Rattle.rotation.specs.Turns.{last-view}
 use Rattle.book.specs.declared.block.Block.{Block}
-use Rattle.book.specs.declared.block.Letter.{Letter}
+use Rattle.letters.specs.declared.letter.Letter.{Letter}
 use Rattle.book.specs.Pages.{at, letter-at}
 
 -- the first block has view 0, and no view is above the last

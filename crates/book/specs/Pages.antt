@@ -8,9 +8,9 @@ use lib.Dec.{eqb, ltb}
 use lib.ListN.{length, getD, replicate}
 use Rattle.quorum.specs.Seats.{everyone}
 use Rattle.book.specs.declared.block.Block.{Block}
-use Rattle.book.specs.declared.block.Letter.{Letter}
 use Rattle.book.specs.declared.block.Kind.{Kind}
 use Rattle.book.specs.declared.block.Kind.the-variants.{First, Fast, Slow}
+pub use Rattle.letters.specs.Letters.{letter-at}
 
 -- a place for the report of each seat, and nothing there
 unfoldable pub no-reports : List ℕ
@@ -54,7 +54,3 @@ among x (y ∷ ys) = eqb x y || among x ys
 -- whether block b stands on block c (the literature: extends)
 abbrev pub stands : List Block → ℕ → ℕ → Bool
 stands bs b c = among c (chain bs b)
-
--- the letter with number i, in order of arrival
-abbrev pub letter-at : List Letter → ℕ → Letter
-letter-at ls i = getD ls i (record { seat = 0; view = 0; block = 0 })

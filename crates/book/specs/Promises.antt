@@ -12,7 +12,7 @@ use Rattle.refusal.specs.declared.Refusal.{Refusal}
 use Rattle.book.specs.Admission.{Design, fast-reasons, slow-reasons, fast-reply, slow-reply, fast-block, slow-block, fast-blocks, slow-blocks}
 use Rattle.book.specs.Rules.{JustifiedFast, JustifiedSlow, Unbarred, WellMade}
 use Rattle.book.specs.declared.block.Block.{Block}
-use Rattle.book.specs.declared.block.Letter.{Letter}
+use Rattle.letters.specs.declared.letter.Letter.{Letter}
 use Rattle.book.specs.declared.block.Proposal.{Proposal}
 
 -- The reply to a fast proposal, and the book after it.

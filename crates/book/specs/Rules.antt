@@ -16,7 +16,7 @@ use Rattle.book.specs.Admission.{Design, namers}
 use Rattle.book.specs.Kinds.{is-slow}
 use Rattle.book.specs.Pages.{at, letter-at}
 use Rattle.book.specs.declared.block.Block.{Block}
-use Rattle.book.specs.declared.block.Letter.{Letter}
+use Rattle.letters.specs.declared.letter.Letter.{Letter}
 use Rattle.book.specs.declared.block.Proposal.{Proposal}
 
 -- A list of blocks under a design, as the words of the protocol read it: chains, votes, reports, certificates.
@@ -107,9 +107,3 @@ pub record WellMade (d : Design) (bs : List Block) : Type 0 where
   pub fast-made : (b : ℕ) → Made (model d bs) b → Fast (model d bs) b → FastRule (model d bs) b
   pub slow-made : (b : ℕ) → Made (model d bs) b → Slow (model d bs) b → SlowMade (model d bs) b
   pub commit-made : (b : ℕ) → Made (model d bs) b → Advances (model d bs) b ⊎ Stays (model d bs) b
-
--- At most one block is named by a quorum of the reports, under any rule with its laws.
-abbrev pub One-named : Type 0
-One-named =
-    (most n : ℕ) (quorum tolerated : ℕ → Bool) → QuorumLaws most n quorum tolerated →
-    (reports : List ℕ) (heard b c : ℕ) → T (quorum (namers reports heard b)) → T (quorum (namers reports heard c)) → b ≡ c

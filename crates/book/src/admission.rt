@@ -1,16 +1,20 @@
 // Admission: a block enters exactly when the rules justify it.
+ghost use mathlib.Core.Bool.{cond};
 ghost use mathlib.Core.Path.{_≡_};
 ghost use Prim.Native.Nat.{_<_};
 ghost use lib.ListN.{length, getD};
 ghost use Rattle.std.specs.Of.Vec.{vec-items, vec-len};
+ghost use Rattle.std.specs.declared.result.Result.the-variants.{Ok, Err};
 ghost use Rattle.refusal.specs.Reasons.{replied};
+ghost use Rattle.refusal.specs.declared.Refusal.the-variants.{HeardSeatSilent};
 ghost use Rattle.book.specs.Promises.{FastAdmission, SlowAdmission};
-ghost use Rattle.book.specs.Admission.{design, has-view, shared-reasons, entered, reports-of, unfit};
+ghost use Rattle.book.specs.Admission.{design, has-view, shared-reasons, entered, reports-of, silent, unfit};
 use crate::block::Block;
 use crate::block::Kind;
 use crate::block::Proposal;
-use crate::certificate::is_reported;
 use crate::pages::Book;
+use letters::reports::is_reported;
+use letters::reports::reports;
 use quorum::rule::QuorumRule;
 use quorum::seats::SeatSet;
 use refusal::Refusal;
@@ -108,6 +112,13 @@ impl Book {
         }
         let block = self.proposed(proposal, maker, Kind::Fast, [0; 64], proposal.parent);
         Ok(self.enter(block))
+    }
+
+    // What the heard seats report, by seat.
+    fn reports(&self, heard: SeatSet, view: u32) -> Result<[u32; 64], Refusal>
+        ensures { λ r. ⌜ r ≡ cond (silent (vec-items (now (self .entry) .letters)) (heard .bits) view) (Err HeardSeatSilent) (Ok (reports-of (vec-items (now (self .entry) .letters)) (heard .bits) view)) ⌝ }
+    {
+        reports(self.letters.as_slice(), heard, view)
     }
 
     // Whether the parent is not reported, or a reported block outranks it.

@@ -5,7 +5,7 @@ ghost use Rattle.book.specs.Questions.{of-later, report-told};
 use quorum::seats::SeatSet;
 
 // How a block was justified. The first block needs no justification.
-#[derive(Clone, Copy, Debug)]
+#[derive(Clone, Copy)]
 pub enum Kind {
     First,
     Fast,
@@ -97,14 +97,6 @@ impl Block {
         }
         None
     }
-}
-
-// What a seat says on entering a view: the last block that it voted for.
-#[derive(Clone, Copy)]
-pub struct Letter {
-    pub seat: u8,
-    pub view: u32,
-    pub block: u32,
 }
 
 // What a leader asks to have entered.

@@ -1,68 +1,14 @@
-// Reports, ranks and the certificate of a slow block.
-ghost use mathlib.Core.Bool.{false};
+// Ranks, and the certificate of a slow block.
 ghost use mathlib.Core.Path.{_≡_};
 ghost use Prim.Native.Nat.{ℕ, _<_};
-ghost use lib.ListN.{length, getD};
+ghost use lib.ListN.{getD};
 ghost use Rattle.std.specs.Of.Vec.{vec-items, vec-len};
-ghost use Rattle.quorum.specs.Seats.{held};
-ghost use Rattle.book.specs.Admission.{any-below, reports-it, outranks, rank-of, namers, decides-with, named, slow-certificate};
+ghost use Rattle.book.specs.Admission.{any-below, outranks, rank-of, slow-certificate};
 use crate::pages::Book;
 use highest::highest;
+use letters::reports::named;
 use quorum::rule::QuorumRule;
 use quorum::seats::SeatSet;
-
-// Whether a seat is heard and reports exactly this block.
-fn reports_it(reports: &[u32; 64], heard: SeatSet, block: u32, seat: u8) -> bool
-    requires { ⌜ seat < 64 ⌝ }
-    ensures { λ r. ⌜ r ≡ reports-it (now (reports .entry)) (heard .bits) block seat ⌝ }
-{
-    heard.holds(seat) && reports[seat as usize] == block
-}
-
-// Whether a heard seat reports this block.
-pub(crate) fn is_reported(reports: &[u32; 64], heard: SeatSet, block: u32) -> bool
-    ensures { λ r. ⌜ r ≡ any-below (reports-it (now (reports .entry)) (heard .bits) block) 64 ⌝ }
-{
-    for seat in 0..64 {
-        if reports_it(reports, heard, block, seat) {
-            return true;
-        }
-    }
-    false
-}
-
-// The heard seats that report exactly this block.
-fn namers(reports: &[u32; 64], heard: SeatSet, block: u32) -> SeatSet
-    ensures { λ r. ⌜ r .bits ≡ namers (now (reports .entry)) (heard .bits) block ⌝ }
-{
-    let mut set = SeatSet { bits: 0 };
-    for seat in 0..64 {
-        if reports_it(reports, heard, block, seat) {
-            set = set.with(seat);
-        }
-    }
-    set
-}
-
-// Whether a seat is heard, and the seats that report the same block as it are a quorum.
-fn decides_with<R: QuorumRule>(rule: &R, reports: &[u32; 64], heard: SeatSet, seat: u8) -> bool
-    requires { ⌜ seat < 64 ⌝ }
-    ensures { λ r. ⌜ r ≡ decides-with (R·QuorumRule .quorum (now (rule .entry))) (now (reports .entry)) (heard .bits) seat ⌝ }
-{
-    heard.holds(seat) && rule.is_quorum(namers(reports, heard, reports[seat as usize]))
-}
-
-// The block that a quorum of the reports names.
-fn named<R: QuorumRule>(rule: &R, reports: &[u32; 64], heard: SeatSet) -> Option<u32>
-    ensures { λ r. ⌜ r ≡ named (R·QuorumRule .quorum (now (rule .entry))) (now (reports .entry)) (heard .bits) ⌝ }
-{
-    for seat in (0..64).rev() {
-        if decides_with(rule, reports, heard, seat) {
-            return Some(reports[seat as usize]);
-        }
-    }
-    None
-}
 
 impl Book {
     // A block's view and its certificate's view.

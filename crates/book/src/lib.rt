@@ -3,8 +3,6 @@ mod admission;
 pub mod block;
 mod certificate;
 mod changes;
-pub mod laws;
-mod letters;
 pub mod pages;
 mod questions;
 mod walks;

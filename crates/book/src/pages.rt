@@ -3,7 +3,7 @@ ghost use Prim.Native.Nat.{_≤_, _<_};
 ghost use Rattle.std.specs.Of.Vec.{vec-items, vec-len, vec-cap};
 ghost use Rattle.book.specs.Known.{FirstView, ViewsWithin, ParentsBefore, ParentsEarlier, HeightsWithin, CertificatesKnown, CommitsKnown, ReportsKnown, LettersKnown, LettersLater};
 use crate::block::Block;
-use crate::block::Letter;
+use letters::letter::Letter;
 
 // At most 256 blocks and 512 letters, in order of arrival. Room for them all is reserved from the start.
 #[derive(Drop)]

@@ -1,9 +1,9 @@
 // Small books of four seats, of which seat 3 is open; view v is led by seat v mod 4.
 use book::block::Block;
 use book::block::Kind;
-use book::block::Letter;
 use book::block::Proposal;
 use book::pages::Book;
+use letters::letter::Letter;
 use quorum::count::CountRule;
 use quorum::count::CountRuleQuorum;
 use quorum::seats::SeatSet;

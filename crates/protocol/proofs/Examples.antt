@@ -11,7 +11,7 @@ use Rattle.book.specs.Admission.{any-below, last-below, set-where, reports-of}
 use Rattle.book.specs.Pages.{no-reports, genesis}
 use Rattle.book.specs.declared.block.Block.{Block}
 use Rattle.book.specs.declared.block.Kind.the-variants.{Fast as IsFast, Slow as IsSlow}
-use Rattle.book.specs.declared.block.Letter.{Letter}
+use Rattle.letters.specs.declared.letter.Letter.{Letter}
 use Rattle.protocol.specs.Calls.{reply, after, run}
 use Rattle.protocol.specs.Marked.{four, proposal, show-all, certificate-in, commit-in, started, two-blocks, three-blocks, failed-view, carried-on, certified-again, split-votes, other-branch, other-certified, told-more, reported-branch, reported-certified, Marked-runs}
 use Rattle.protocol.specs.State.{State, fresh, idle}

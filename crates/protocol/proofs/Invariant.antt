@@ -18,7 +18,7 @@ use Rattle.book.specs.Known.{Known}
 use Rattle.book.specs.Pages.{genesis, at, letter-at}
 use Rattle.book.specs.Rules.{model, WellMade, SlowMade, Certified}
 use Rattle.book.specs.declared.block.Block.{Block}
-use Rattle.book.specs.declared.block.Letter.{Letter}
+use Rattle.letters.specs.declared.letter.Letter.{Letter}
 use Rattle.book.proofs.Growth.{known-first}
 use Rattle.book.proofs.Keeps.{well-first}
 use Rattle.protocol.specs.Safety.{Fit}

@@ -21,11 +21,12 @@ use Rattle.book.specs.Known.{Known}
 use Rattle.book.specs.Pages.{genesis, at, letter-at, stands}
 use Rattle.book.specs.Rules.{model, WellMade}
 use Rattle.book.specs.declared.block.Block.{Block}
-use Rattle.book.specs.declared.block.Letter.{Letter}
+use Rattle.letters.specs.declared.letter.Letter.{Letter}
 use Rattle.book.proofs.Extends.{Later, Extends, extends-push, extends-vote}
 use Rattle.book.proofs.Growth.{at-old, at-new, old-or-new, known-first, known-vote, known-letter}
 use Rattle.book.proofs.Keeps.{well-first, well-vote}
-use Rattle.book.proofs.Reflect.{true-from, from-true, not-from}
+use Rattle.letters.proofs.Truth.{true-from, from-true}
+use Rattle.book.proofs.Reflect.{not-from}
 use Rattle.protocol.specs.State.{idle}
 use Rattle.protocol.specs.declared.seat.Seat.{Seat}
 use Rattle.protocol.proofs.Seating.{idle-at}

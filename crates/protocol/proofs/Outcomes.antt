@@ -21,7 +21,7 @@ use Rattle.book.specs.Admission.{Design, grown}
 use Rattle.book.specs.Changes.{letter-reply, letter-after, vote-after}
 use Rattle.book.specs.Pages.{at}
 use Rattle.book.specs.declared.block.Block.{Block}
-use Rattle.book.specs.declared.block.Letter.{Letter}
+use Rattle.letters.specs.declared.letter.Letter.{Letter}
 use Rattle.protocol.specs.Calls.{reply, after, changed, shown, show-reasons, show-after, leave-reasons, letters-full, expire-after}
 use Rattle.protocol.specs.Held.{under}
 use Rattle.protocol.specs.State.{State, idle}

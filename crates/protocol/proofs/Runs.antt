@@ -24,13 +24,14 @@ use Rattle.book.specs.Known.{Known}
 use Rattle.book.specs.Pages.{at, letter-at, stands}
 use Rattle.book.specs.Rules.{model, WellMade, LatestLetter, JustifiedSlow}
 use Rattle.book.specs.declared.block.Block.{Block}
-use Rattle.book.specs.declared.block.Letter.{Letter}
+use Rattle.letters.specs.declared.letter.Letter.{Letter}
 use Rattle.book.specs.declared.block.Proposal.{Proposal}
 use Rattle.book.proofs.Admitted.{fast-known, slow-known, fast-lawful, slow-lawful}
 use Rattle.book.proofs.Extends.{Extends, extends-refl, extends-trans, extends-push, extends-vote, stands-up}
 use Rattle.book.proofs.Growth.{at-new}
 use Rattle.book.proofs.Justify.{fast-justified, slow-justified}
-use Rattle.book.proofs.Reflect.{true-from, from-true, not-from, stands-relates}
+use Rattle.letters.proofs.Truth.{true-from, from-true}
+use Rattle.book.proofs.Reflect.{not-from, stands-relates}
 use Rattle.book.proofs.Reports.{heard-report, letter-latest}
 use Rattle.quorum.proofs.Sets.{held-within}
 use Rattle.protocol.specs.Calls.{reply, after, changed, run, votes, shown, show-after, expire-after, show-reasons, expire-reasons, vote-reasons, letter-reasons, with-blocks, with-letters}

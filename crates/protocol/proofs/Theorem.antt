@@ -31,7 +31,8 @@ use Rattle.book.specs.Rules.{model}
 use Rattle.book.specs.declared.block.Block.{Block}
 use Rattle.book.proofs.Chains.{chain-step}
 use Rattle.book.proofs.Extends.{Extends, stands-up}
-use Rattle.book.proofs.Reflect.{true-from, from-true, not-from, stands-relates, relates-stands}
+use Rattle.letters.proofs.Truth.{true-from, from-true}
+use Rattle.book.proofs.Reflect.{not-from, stands-relates, relates-stands}
 use Rattle.protocol.specs.Calls.{reply, after, changed, run, votes, show-after, show-reasons}
 use Rattle.protocol.specs.Safety.{book-of, Starts, Agreement, KeptLeaderLasts, Elder, EldersCommitted, Fit, Safety-law, Proposals-law}
 use Rattle.protocol.specs.State.{State, seat-at, idle, is-kept, fresh, commits}

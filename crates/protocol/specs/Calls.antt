@@ -16,7 +16,7 @@ use Rattle.book.specs.Admission.{fast-reply, slow-reply, fast-blocks, slow-bloc
 use Rattle.book.specs.Changes.{vote-after}
 use Rattle.book.specs.Pages.{at, stands}
 use Rattle.book.specs.declared.block.Block.{Block}
-use Rattle.book.specs.declared.block.Letter.{Letter}
+use Rattle.letters.specs.declared.letter.Letter.{Letter}
 use Rattle.protocol.specs.State.{State, seat-at}
 use Rattle.protocol.specs.declared.call.Call.{Call}
 use Rattle.protocol.specs.declared.call.Call.the-variants.{Fast, Slow, Show, Expire, Vote, Letter as Write}

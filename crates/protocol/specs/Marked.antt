@@ -13,7 +13,7 @@ use Rattle.refusal.specs.declared.Refusal.the-variants.{ParentUnfit}
 use Rattle.rotation.specs.Robin.{robin-leads}
 use Rattle.book.specs.Admission.{Design, design}
 use Rattle.book.specs.Pages.{at}
-use Rattle.book.specs.declared.block.Letter.{Letter}
+use Rattle.letters.specs.declared.letter.Letter.{Letter}
 use Rattle.book.specs.declared.block.Proposal.{Proposal}
 use Rattle.protocol.specs.Calls.{reply, after, run}
 use Rattle.protocol.specs.State.{State, fresh}

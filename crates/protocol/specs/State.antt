@@ -9,7 +9,7 @@ use Rattle.quorum.specs.Seats.{held}
 use Rattle.book.specs.Admission.{Design}
 use Rattle.book.specs.Pages.{genesis, chain}
 use Rattle.book.specs.declared.block.Block.{Block}
-use Rattle.book.specs.declared.block.Letter.{Letter}
+use Rattle.letters.specs.declared.letter.Letter.{Letter}
 use Rattle.protocol.specs.declared.seat.Seat.{Seat}
 
 pub record State : Type 0 where

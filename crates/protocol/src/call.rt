@@ -1,6 +1,6 @@
 // The calls of a cluster, as values.
-use book::block::Letter;
 use book::block::Proposal;
+use letters::letter::Letter;
 
 // What can be asked of a cluster.
 #[derive(Clone, Copy)]

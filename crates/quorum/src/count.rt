@@ -8,7 +8,7 @@ use crate::seats::SeatSet;
 use refusal::Refusal;
 
 // Quorums by number: f of 3 f + 1 seats may be faulty, and 2 f + 1 decide.
-#[derive(Clone, Copy, Debug)]
+#[derive(Clone, Copy)]
 pub struct CountRule {
     faults: u8,
     ghost few: { faults ≤ 21 },

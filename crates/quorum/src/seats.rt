@@ -4,7 +4,7 @@ ghost use Prim.Native.Nat.{min};
 ghost use Rattle.quorum.specs.Seats.{held, within, with-seat, subset, union, everyone, everyone-but, how-many};
 
 // A set of the seats 0 to 63: seat s is the bit worth 2^s.
-#[derive(Clone, Copy, Debug, PartialEq, Eq)]
+#[derive(Clone, Copy)]
 pub struct SeatSet {
     pub bits: u64,
 }

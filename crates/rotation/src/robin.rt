@@ -9,7 +9,7 @@ use crate::turns::is_view;
 use refusal::Refusal;
 
 // The seats lead one after another, from a first seat on.
-#[derive(Clone, Copy, Debug)]
+#[derive(Clone, Copy)]
 pub struct RoundRobin {
     seats: u8,
     first: u8,

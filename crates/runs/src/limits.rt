@@ -5,7 +5,7 @@ use crate::FaultFromRefusal;
 use crate::worked::Four;
 use crate::worked::four;
 use crate::worked::proposal;
-use book::block::Letter;
+use letters::letter::Letter;
 use quorum::count::CountRule;
 use quorum::count::CountRuleQuorum;
 use quorum::rule::QuorumRule;

@@ -2,9 +2,9 @@
 use crate::Fault;
 use crate::FaultFromIo;
 use crate::FaultFromRefusal;
-use book::block::Letter;
 use book::block::Proposal;
 use cluster::cluster::Cluster;
+use letters::letter::Letter;
 use protocol::call::Call;
 use quorum::count::CountRule;
 use quorum::count::CountRuleQuorum;

@@ -1,6 +1,6 @@
 use mathlib.Core.Path.{sym, _∙_}
 use native.Mathlib.Omega.{arith}
-use Rattle.book.proofs.Tests.{any-below-found, any-below-none, any-below-more}
+use Rattle.letters.proofs.Searches.{any-below-found, any-below-none, any-below-more}
 use Rattle.book.proofs.pages.Book.heard_rival.Needs as need
 
 pub returns-then-told-rival : need.returns-then-told-rival

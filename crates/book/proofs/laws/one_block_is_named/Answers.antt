@@ -1,5 +1,0 @@
-use Rattle.book.proofs.Named.{one-named}
-use Rattle.book.proofs.laws.one_block_is_named.Needs as need
-
-pub returns : need.returns
-returns c = one-named
