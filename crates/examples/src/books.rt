@@ -1,4 +1,7 @@
 // Small books of four seats, of which seat 3 is open; view v is led by seat v mod 4.
+use crate::common::list;
+use crate::common::refused;
+use crate::common::weigh;
 use book::block::Block;
 use book::block::Kind;
 use book::block::Proposal;
@@ -30,6 +33,50 @@ enum Step {
     Letter(u8, u32, u32),
 }
 
+// What a test expects of a block.
+#[derive(Clone, Copy)]
+enum Fact {
+    Kind(Kind),
+    // its view, its payload and its height
+    Place(u32, u64, u32),
+    Parent(Option<u32>),
+    Maker(Option<u8>),
+    Heard(Option<u64>),
+    // its certificate and its commit point
+    Points(u32, u32),
+    Voters(u64),
+    // a seat, and what it reported
+    Report(u8, Option<u32>),
+}
+
+// What a test does with a book, or expects of it.
+#[derive(Clone, Copy)]
+enum Row {
+    // a step that is accepted, with its answer
+    Takes(Step, u32),
+    // a step that is refused, with its number: it leaves the blocks and letters as many as they were
+    Refuses(Step, u8),
+    // votes of seats 0, 1 and 2, who are the first for the block
+    Elects(u32),
+    // letters of seats 0, 1 and 2 for a view, each with the block that it names
+    Writes(u32, [u32; 3]),
+    // so many blocks, from block 1 on, each on the votes for the one before
+    Grows(u32),
+    // so many letters of the open seat, from the first on
+    Piles(u32),
+    // how many blocks and letters there are
+    Counts(u32, u32),
+    // a block and a fact of it
+    Has(u32, Fact),
+    // a block, its view and its certificate's view
+    Rank(u32, u32, u32),
+    // a number that no block has
+    Absent(u32),
+    // two blocks, and whether the first stands on the second
+    Stands(u32, u32, Option<bool>),
+    HighestView(u32),
+}
+
 fn proposal(view: u32, parent: u32, heard: u64) -> Proposal {
     Proposal {
         view,
@@ -42,59 +89,33 @@ fn proposal(view: u32, parent: u32, heard: u64) -> Proposal {
 fn take(book: &mut Book, step: Step) -> Result<u32, Refusal> {
     let rule = CountRule::new(1)?;
     let turns = RoundRobin::new(4)?;
-    let open_set = SeatSet { bits: 8 };
+    let open = SeatSet { bits: 8 };
     match step {
-        Step::Fast(view, parent, heard) => book.fast(
-            &rule,
-            &turns,
-            open_set,
-            &proposal(view, parent, heard),
-        ),
-        Step::Slow(view, parent, heard) => book.slow(
-            &rule,
-            &turns,
-            open_set,
-            &proposal(view, parent, heard),
-        ),
+        Step::Fast(v, p, heard) => book.fast(&rule, &turns, open, &proposal(v, p, heard)),
+        Step::Slow(v, p, heard) => book.slow(&rule, &turns, open, &proposal(v, p, heard)),
         Step::Vote(seat, block) => book.add_vote(seat, block),
         Step::Letter(seat, view, block) => book.add_letter(Letter { seat, view, block }),
     }
 }
 
-// Steps that are all accepted, each with its answer.
-fn accepts(book: &mut Book, steps: &[(Step, u32)]) -> Result<(), Fail> {
-    for &(step, answer) in steps {
-        check_eq(take(book, step)?, answer)?;
+fn takes(book: &mut Book, step: Step, answer: u32) -> Result<(), Fail> {
+    check_eq(take(book, step)?, answer)
+}
+
+fn refuses(book: &mut Book, step: Step, number: u8) -> Result<(), Fail> {
+    let blocks = book.blocks();
+    let letters = book.letters();
+    refused(take(book, step), number)?;
+    check(book.blocks() == blocks && book.letters() == letters)
+}
+
+fn elect(book: &mut Book, block: u32) -> Result<(), Fail> {
+    for seat in 0..3 {
+        takes(book, Step::Vote(seat, block), u32::from(seat) + 1)?;
     }
     Ok(())
 }
 
-// Steps that are all refused, each with its number. They leave the blocks and letters as many as they were.
-fn refuses(book: &mut Book, steps: &[(Step, u8)]) -> Result<(), Fail> {
-    let blocks = book.blocks();
-    let letters = book.letters();
-    for &(step, number) in steps {
-        match take(book, step) {
-            Ok(_) => return Err(Fail::new("accepted")),
-            Err(refusal) => check_eq(refusal.number(), number)?,
-        }
-    }
-    check(book.blocks() == blocks && book.letters() == letters)
-}
-
-// The votes of seats 0, 1 and 2, who are the first for the block.
-fn elect(book: &mut Book, block: u32) -> Result<(), Fail> {
-    accepts(
-        book,
-        &[
-            (Step::Vote(0, block), 1),
-            (Step::Vote(1, block), 2),
-            (Step::Vote(2, block), 3),
-        ],
-    )
-}
-
-// Letters of seats 0, 1 and 2 for a view, each with the block that it names.
 fn write(book: &mut Book, view: u32, named: [u32; 3]) -> Result<(), Fail> {
     for seat in 0..3 {
         let count = take(book, Step::Letter(seat, view, named[seat as usize]))?;
@@ -103,482 +124,518 @@ fn write(book: &mut Book, view: u32, named: [u32; 3]) -> Result<(), Fail> {
     Ok(())
 }
 
-fn block(book: &Book, number: u32) -> Result<&Block, Fail> {
-    Ok(book.find(number).ok_or("no such block")?)
-}
-
-// A block's certificate and commit point.
-fn points(book: &Book, number: u32, certificate: u32, commit: u32) -> Result<(), Fail> {
-    let block = block(book, number)?;
-    check_eq(block.certificate, certificate)?;
-    check_eq(block.commit, commit)
-}
-
-// What seats reported to a block.
-fn reports(book: &Book, number: u32, told: &[(u8, Option<u32>)]) -> Result<(), Fail> {
-    let block = block(book, number)?;
-    for &(seat, report) in told {
-        check_eq(block.report(seat), report)?;
+fn grow(book: &mut Book, count: u32) -> Result<(), Fail> {
+    for parent in 0..count {
+        takes(book, Step::Fast(parent + 1, parent, 7), parent + 1)?;
+        elect(book, parent + 1)?;
     }
     Ok(())
 }
 
-// The voters of blocks.
-fn voters(book: &Book, told: &[(u32, u64)]) -> Result<(), Fail> {
-    for &(number, bits) in told {
-        check_eq(block(book, number)?.voters.bits, bits)?;
+fn pile(book: &mut Book, count: u32) -> Result<(), Fail> {
+    for held in 0..count {
+        takes(book, Step::Letter(3, 1, 0), held + 1)?;
     }
     Ok(())
 }
 
-// The ranks of blocks.
-fn ranks(book: &Book, told: &[(u32, (u32, u32))]) -> Result<(), Fail> {
-    for &(number, rank) in told {
-        check_eq(book.rank(number), Some(rank))?;
+fn bits(set: Option<SeatSet>) -> Option<u64> {
+    match set {
+        Some(set) => Some(set.bits),
+        None => None,
+    }
+}
+
+fn has(block: &Block, fact: Fact) -> Result<(), Fail> {
+    match fact {
+        Fact::Kind(kind) => check_eq(block.kind as u8, kind as u8),
+        Fact::Place(view, payload, height) => check_eq(
+            (block.view, block.payload, block.height),
+            (view, payload, height),
+        ),
+        Fact::Parent(parent) => check_eq(block.parent(), parent),
+        Fact::Maker(maker) => check_eq(block.maker(), maker),
+        Fact::Heard(heard) => check_eq(bits(block.heard()), heard),
+        Fact::Points(certificate, commit) => check_eq(
+            (block.certificate, block.commit),
+            (certificate, commit),
+        ),
+        Fact::Voters(bits) => check_eq(block.voters.bits, bits),
+        Fact::Report(seat, told) => check_eq(block.report(seat), told),
+    }
+}
+
+fn block_has(book: &Book, number: u32, fact: Fact) -> Result<(), Fail> {
+    match book.find(number) {
+        Some(block) => has(block, fact),
+        None => Err(Fail::new("no such block")),
+    }
+}
+
+fn absent(book: &Book, number: u32) -> Result<(), Fail> {
+    check(
+        book.find(number).is_none()
+            && book.rank(number).is_none()
+            && book.on_chain(number, 0).is_none(),
+    )
+}
+
+fn play_row(book: &mut Book, row: Row) -> Result<(), Fail> {
+    match row {
+        Row::Takes(step, answer) => takes(book, step, answer),
+        Row::Refuses(step, number) => refuses(book, step, number),
+        Row::Elects(number) => elect(book, number),
+        Row::Writes(view, named) => write(book, view, named),
+        Row::Grows(count) => grow(book, count),
+        Row::Piles(count) => pile(book, count),
+        Row::Counts(blocks, letters) => check_eq(
+            (book.blocks(), book.letters()),
+            (blocks, letters),
+        ),
+        Row::Has(number, fact) => block_has(book, number, fact),
+        Row::Rank(number, view, certificate) => check_eq(
+            book.rank(number),
+            Some((view, certificate)),
+        ),
+        Row::Absent(number) => absent(book, number),
+        Row::Stands(number, below, told) => check_eq(book.stands_on(number, below), told),
+        Row::HighestView(view) => check_eq(book.highest_view(), Some(view)),
+    }
+}
+
+fn play(book: &mut Book, rows: &[Row]) -> Result<(), Fail> {
+    for &row in rows {
+        play_row(book, row)?;
+    }
+    Ok(())
+}
+
+// A test: rows on a new book, part by part.
+fn plays(heap: Global, parts: &[&[Row]]) -> Result<(), Fail> {
+    let mut book = Book::new(heap, 4)?;
+    for rows in parts {
+        play(&mut book, rows)?;
     }
     Ok(())
 }
 
 // Block 1 of view 1 and, on the votes of 0, 1 and 2 for it, block 2 of view 2.
-fn two(heap: Global) -> Result<Book, Fail> {
-    let mut book = Book::new(heap, 4)?;
-    accepts(&mut book, &[(Step::Fast(1, 0, 7), 1)])?;
-    elect(&mut book, 1)?;
-    accepts(&mut book, &[(Step::Fast(2, 1, 7), 2)])?;
-    Ok(book)
-}
+const TWO: [Row; 3] = [
+    Row::Takes(Step::Fast(1, 0, 7), 1),
+    Row::Elects(1),
+    Row::Takes(Step::Fast(2, 1, 7), 2),
+];
 
 // And, as only 0 and 1 voted for block 2, the slow block 3 of view 3 on it.
-fn two_and_slow(heap: Global) -> Result<Book, Fail> {
-    let mut book = two(heap)?;
-    accepts(&mut book, &[(Step::Vote(0, 2), 1), (Step::Vote(1, 2), 2)])?;
-    write(&mut book, 3, [2, 2, 1])?;
-    refuses(&mut book, &[(Step::Slow(3, 1, 7), 15)])?;
-    accepts(&mut book, &[(Step::Slow(3, 2, 7), 3)])?;
-    Ok(book)
-}
+const SLOW: [Row; 5] = [
+    Row::Takes(Step::Vote(0, 2), 1),
+    Row::Takes(Step::Vote(1, 2), 2),
+    Row::Writes(3, [2, 2, 1]),
+    Row::Refuses(Step::Slow(3, 1, 7), 15),
+    Row::Takes(Step::Slow(3, 2, 7), 3),
+];
 
 // Or two blocks of view 3, which is led by the open seat: 0 and 1 vote for block 3, and 2 for block 4. Each names its own
 // to view 5.
-fn forked(heap: Global) -> Result<Book, Fail> {
-    let mut book = two(heap)?;
-    elect(&mut book, 2)?;
-    accepts(
-        &mut book,
-        &[
-            (Step::Fast(3, 2, 7), 3),
-            (Step::Fast(3, 2, 7), 4),
-            (Step::Vote(0, 3), 1),
-            (Step::Vote(1, 3), 2),
-            (Step::Vote(2, 4), 1),
-        ],
-    )?;
-    write(&mut book, 5, [3, 3, 4])?;
-    Ok(book)
-}
+const FORK: [Row; 7] = [
+    Row::Elects(2),
+    Row::Takes(Step::Fast(3, 2, 7), 3),
+    Row::Takes(Step::Fast(3, 2, 7), 4),
+    Row::Takes(Step::Vote(0, 3), 1),
+    Row::Takes(Step::Vote(1, 3), 2),
+    Row::Takes(Step::Vote(2, 4), 1),
+    Row::Writes(5, [3, 3, 4]),
+];
 
 // And the open seat names block 3 as well, so that a quorum does, and block 5 stands on it.
-fn clashing(heap: Global) -> Result<Book, Fail> {
-    let mut book = forked(heap)?;
-    accepts(
-        &mut book,
-        &[(Step::Letter(3, 5, 3), 4), (Step::Slow(5, 3, 15), 5)],
-    )?;
-    Ok(book)
-}
+const CLASH: [Row; 2] = [
+    Row::Takes(Step::Letter(3, 5, 3), 4),
+    Row::Takes(Step::Slow(5, 3, 15), 5),
+];
 
 #[test]
 fn the_first_block(rt: LibcRuntime) -> Result<(), Fail> {
-    let book = Book::new(rt.alloc(), 4)?;
-    check(book.blocks() == 1 && book.letters() == 0)?;
-    first(block(&book, 0)?)?;
-    check_eq(book.rank(0), Some((0, 0)))?;
-    check_eq(book.highest_view(), Some(0))
-}
-
-fn first(block: &Block) -> Result<(), Fail> {
-    check_eq((block.view, block.payload, block.height), (0, 0, 0))?;
-    check_eq(
-        (block.certificate, block.commit, block.voters.bits),
-        (0, 0, 15),
-    )?;
-    check(matches!(block.kind, Kind::First) && block.report(0).is_none())?;
-    check(block.parent().is_none() && block.maker().is_none() && block.heard().is_none())
+    let rows = [
+        Row::Counts(1, 0),
+        Row::Has(0, Fact::Kind(Kind::First)),
+        Row::Has(0, Fact::Place(0, 0, 0)),
+        Row::Has(0, Fact::Parent(None)),
+        Row::Has(0, Fact::Maker(None)),
+        Row::Has(0, Fact::Heard(None)),
+        Row::Has(0, Fact::Points(0, 0)),
+        Row::Has(0, Fact::Voters(15)),
+        Row::Has(0, Fact::Report(0, None)),
+        Row::Rank(0, 0, 0),
+        Row::HighestView(0),
+    ];
+    plays(rt.alloc(), &[&rows])
 }
 
 #[test]
 fn no_block_is_told_of_before_it_enters(rt: LibcRuntime) -> Result<(), Fail> {
-    let book = Book::new(rt.alloc(), 4)?;
-    check(book.find(1).is_none() && book.rank(1).is_none() && book.on_chain(1, 0).is_none())?;
-    check(book.stands_on(1, 0).is_none() && book.stands_on(0, 1).is_none())
+    let rows = [
+        Row::Absent(1),
+        Row::Stands(1, 0, None),
+        Row::Stands(0, 1, None),
+    ];
+    plays(rt.alloc(), &[&rows])
 }
 
 #[test]
 fn parts_of_a_block(rt: LibcRuntime) -> Result<(), Fail> {
-    let book = two(rt.alloc())?;
-    second(block(&book, 2)?)?;
-    voters(&book, &[(1, 7), (2, 0)])
-}
-
-fn second(block: &Block) -> Result<(), Fail> {
-    check_eq((block.view, block.payload, block.height), (2, 1002, 2))?;
-    check(matches!(block.kind, Kind::Fast) && block.report(0).is_none())?;
-    check_eq((block.parent(), block.maker()), (Some(1), Some(2)))?;
-    check_eq(block.heard().ok_or("none heard")?.bits, 7)
+    let rows = [
+        Row::Has(2, Fact::Kind(Kind::Fast)),
+        Row::Has(2, Fact::Place(2, 1002, 2)),
+        Row::Has(2, Fact::Parent(Some(1))),
+        Row::Has(2, Fact::Maker(Some(2))),
+        Row::Has(2, Fact::Heard(Some(7))),
+        Row::Has(2, Fact::Report(0, None)),
+        Row::Has(1, Fact::Voters(7)),
+        Row::Has(2, Fact::Voters(0)),
+    ];
+    plays(rt.alloc(), &[&TWO, &rows])
 }
 
 #[test]
 fn votes(rt: LibcRuntime) -> Result<(), Fail> {
-    let mut book = two(rt.alloc())?;
-    // a vote again changes nothing
-    accepts(
-        &mut book,
-        &[
-            (Step::Vote(0, 1), 3),
-            (Step::Vote(3, 1), 4),
-            (Step::Vote(2, 2), 1),
-        ],
-    )?;
-    refuses(
-        &mut book,
-        &[(Step::Vote(0, 3), 4), (Step::Vote(0, u32::MAX), 4)],
-    )?;
-    voters(&book, &[(1, 15), (2, 4)])
+    let rows = [
+        // a vote again changes nothing
+        Row::Takes(Step::Vote(0, 1), 3),
+        Row::Takes(Step::Vote(3, 1), 4),
+        Row::Takes(Step::Vote(2, 2), 1),
+        Row::Refuses(Step::Vote(0, 3), 4),
+        Row::Refuses(Step::Vote(0, u32::MAX), 4),
+        Row::Has(1, Fact::Voters(15)),
+        Row::Has(2, Fact::Voters(4)),
+    ];
+    plays(rt.alloc(), &[&TWO, &rows])
 }
 
 #[test]
 fn letters_refused(rt: LibcRuntime) -> Result<(), Fail> {
-    let mut book = two(rt.alloc())?;
-    refuses(
-        &mut book,
-        &[
-            (Step::Letter(0, 0, 3), 4),
-            (Step::Letter(0, 0, 2), 5),
-            (Step::Letter(0, 1_000_001, 2), 5),
-            (Step::Letter(0, 1, 2), 9),
-            (Step::Letter(0, 2, 2), 9),
-        ],
-    )?;
-    accepts(
-        &mut book,
-        &[
-            (Step::Letter(0, 3, 2), 1),
-            (Step::Letter(0, 1_000_000, 2), 2),
-        ],
-    )
+    let rows = [
+        Row::Refuses(Step::Letter(0, 0, 3), 4),
+        Row::Refuses(Step::Letter(0, 0, 2), 5),
+        Row::Refuses(Step::Letter(0, 1_000_001, 2), 5),
+        Row::Refuses(Step::Letter(0, 1, 2), 9),
+        Row::Refuses(Step::Letter(0, 2, 2), 9),
+        Row::Takes(Step::Letter(0, 3, 2), 1),
+        Row::Takes(Step::Letter(0, 1_000_000, 2), 2),
+    ];
+    plays(rt.alloc(), &[&TWO, &rows])
 }
 
 // Of several reasons the smallest number is given.
 #[test]
 fn fast_refused(rt: LibcRuntime) -> Result<(), Fail> {
-    let mut book = two(rt.alloc())?;
-    refuses(
-        &mut book,
-        &[
-            (Step::Fast(0, 9, 19), 2),
-            (Step::Fast(0, 9, 3), 4),
-            (Step::Fast(0, 2, 3), 5),
-            (Step::Fast(1_000_001, 2, 3), 5),
-            (Step::Fast(2, 2, 3), 12),
-            (Step::Fast(4, 2, 3), 13),
-            (Step::Fast(4, 2, 7), 14),
-            (Step::Fast(4, 1, 11), 14),
-            (Step::Fast(4, 1, 7), 15),
-            (Step::Fast(4, 0, 15), 15),
-        ],
-    )
+    let rows = [
+        Row::Refuses(Step::Fast(0, 9, 19), 2),
+        Row::Refuses(Step::Fast(0, 9, 3), 4),
+        Row::Refuses(Step::Fast(0, 2, 3), 5),
+        Row::Refuses(Step::Fast(1_000_001, 2, 3), 5),
+        Row::Refuses(Step::Fast(2, 2, 3), 12),
+        Row::Refuses(Step::Fast(4, 2, 3), 13),
+        Row::Refuses(Step::Fast(4, 2, 7), 14),
+        Row::Refuses(Step::Fast(4, 1, 11), 14),
+        Row::Refuses(Step::Fast(4, 1, 7), 15),
+        Row::Refuses(Step::Fast(4, 0, 15), 15),
+    ];
+    plays(rt.alloc(), &[&TWO, &rows])
 }
 
 #[test]
 fn slow_refused(rt: LibcRuntime) -> Result<(), Fail> {
-    let mut book = two(rt.alloc())?;
-    write(&mut book, 4, [1, 0, 0])?;
-    refuses(
-        &mut book,
-        &[
-            (Step::Slow(0, 9, 19), 2),
-            (Step::Slow(0, 9, 3), 4),
-            (Step::Slow(0, 2, 3), 5),
-            (Step::Slow(1_000_001, 2, 3), 5),
-            (Step::Slow(2, 2, 3), 12),
-            (Step::Slow(4, 2, 3), 13),
-            (Step::Slow(4, 2, 15), 14),
-            (Step::Slow(5, 1, 7), 14),
-            // reported by nobody, and outranked
-            (Step::Slow(4, 2, 7), 15),
-            (Step::Slow(4, 0, 7), 15),
-        ],
-    )?;
-    accepts(&mut book, &[(Step::Slow(4, 1, 7), 3)])
+    let rows = [
+        Row::Writes(4, [1, 0, 0]),
+        Row::Refuses(Step::Slow(0, 9, 19), 2),
+        Row::Refuses(Step::Slow(0, 9, 3), 4),
+        Row::Refuses(Step::Slow(0, 2, 3), 5),
+        Row::Refuses(Step::Slow(1_000_001, 2, 3), 5),
+        Row::Refuses(Step::Slow(2, 2, 3), 12),
+        Row::Refuses(Step::Slow(4, 2, 3), 13),
+        Row::Refuses(Step::Slow(4, 2, 15), 14),
+        Row::Refuses(Step::Slow(5, 1, 7), 14),
+        // reported by nobody, and outranked
+        Row::Refuses(Step::Slow(4, 2, 7), 15),
+        Row::Refuses(Step::Slow(4, 0, 7), 15),
+        Row::Takes(Step::Slow(4, 1, 7), 3),
+    ];
+    plays(rt.alloc(), &[&TWO, &rows])
 }
 
 #[test]
 fn fast_blocks_certify_their_parents(rt: LibcRuntime) -> Result<(), Fail> {
-    let mut book = two(rt.alloc())?;
-    elect(&mut book, 2)?;
-    accepts(&mut book, &[(Step::Fast(3, 2, 7), 3)])?;
-    points(&book, 1, 0, 0)?;
-    points(&book, 2, 1, 0)?;
-    points(&book, 3, 2, 1)?;
-    ranks(&book, &[(3, (3, 2))])
+    let rows = [
+        Row::Elects(2),
+        Row::Takes(Step::Fast(3, 2, 7), 3),
+        Row::Has(1, Fact::Points(0, 0)),
+        Row::Has(2, Fact::Points(1, 0)),
+        Row::Has(3, Fact::Points(2, 1)),
+        Row::Rank(3, 3, 2),
+    ];
+    plays(rt.alloc(), &[&TWO, &rows])
 }
 
 #[test]
 fn a_slow_block_inherits(rt: LibcRuntime) -> Result<(), Fail> {
-    let mut book = two_and_slow(rt.alloc())?;
-    points(&book, 3, 1, 0)?;
-    ranks(&book, &[(3, (3, 1))])?;
-    elect(&mut book, 3)?;
-    accepts(&mut book, &[(Step::Fast(4, 3, 7), 4)])?;
-    points(&book, 4, 3, 1)
+    let rows = [
+        Row::Has(3, Fact::Points(1, 0)),
+        Row::Rank(3, 3, 1),
+        Row::Elects(3),
+        Row::Takes(Step::Fast(4, 3, 7), 4),
+        Row::Has(4, Fact::Points(3, 1)),
+    ];
+    plays(rt.alloc(), &[&TWO, &SLOW, &rows])
 }
 
 #[test]
 fn reports_told(rt: LibcRuntime) -> Result<(), Fail> {
-    let book = two_and_slow(rt.alloc())?;
-    check(block(&book, 3)?.kind.is_slow())?;
-    // seat 3 was not heard, and there is no seat 66
-    reports(
-        &book,
-        3,
-        &[
-            (0, Some(2)),
-            (1, Some(2)),
-            (2, Some(1)),
-            (3, None),
-            (66, None),
-        ],
-    )
+    let rows = [
+        Row::Has(3, Fact::Kind(Kind::Slow)),
+        Row::Has(3, Fact::Report(0, Some(2))),
+        Row::Has(3, Fact::Report(1, Some(2))),
+        Row::Has(3, Fact::Report(2, Some(1))),
+        // seat 3 was not heard, and there is no seat 66
+        Row::Has(3, Fact::Report(3, None)),
+        Row::Has(3, Fact::Report(66, None)),
+    ];
+    plays(rt.alloc(), &[&TWO, &SLOW, &rows])
 }
 
 #[test]
 fn a_quorum_of_reports_certifies(rt: LibcRuntime) -> Result<(), Fail> {
-    let mut book = two(rt.alloc())?;
-    write(&mut book, 3, [2, 2, 2])?;
-    accepts(&mut book, &[(Step::Slow(3, 2, 7), 3)])?;
-    points(&book, 3, 2, 1)
+    let rows = [
+        Row::Writes(3, [2, 2, 2]),
+        Row::Takes(Step::Slow(3, 2, 7), 3),
+        Row::Has(3, Fact::Points(2, 1)),
+    ];
+    plays(rt.alloc(), &[&TWO, &rows])
 }
 
 // Block 3 stands on block 2, but a report of it is none of block 2.
 #[test]
 fn only_reports_of_the_block_itself_count(rt: LibcRuntime) -> Result<(), Fail> {
-    let mut book = two_and_slow(rt.alloc())?;
-    write(&mut book, 4, [2, 2, 3])?;
-    accepts(&mut book, &[(Step::Slow(4, 3, 7), 4)])?;
-    points(&book, 4, 1, 0)
+    let rows = [
+        Row::Writes(4, [2, 2, 3]),
+        Row::Takes(Step::Slow(4, 3, 7), 4),
+        Row::Has(4, Fact::Points(1, 0)),
+    ];
+    plays(rt.alloc(), &[&TWO, &SLOW, &rows])
 }
 
 // The quorum may name a block below the parent.
 #[test]
 fn a_quorum_certifies_below_the_parent(rt: LibcRuntime) -> Result<(), Fail> {
-    let mut book = two_and_slow(rt.alloc())?;
-    write(&mut book, 4, [2, 2, 3])?;
-    accepts(
-        &mut book,
-        &[(Step::Letter(3, 4, 2), 7), (Step::Slow(4, 3, 15), 4)],
-    )?;
-    points(&book, 4, 2, 1)
+    let rows = [
+        Row::Writes(4, [2, 2, 3]),
+        Row::Takes(Step::Letter(3, 4, 2), 7),
+        Row::Takes(Step::Slow(4, 3, 15), 4),
+        Row::Has(4, Fact::Points(2, 1)),
+    ];
+    plays(rt.alloc(), &[&TWO, &SLOW, &rows])
 }
 
 // But neither one that the parent does not stand on, nor one no later than the parent's certificate.
 #[test]
 fn a_quorum_off_the_chain_certifies_nothing(rt: LibcRuntime) -> Result<(), Fail> {
-    let mut book = two(rt.alloc())?;
-    write(&mut book, 3, [1, 1, 0])?;
-    accepts(&mut book, &[(Step::Slow(3, 1, 7), 3)])?;
-    write(&mut book, 4, [2, 2, 3])?;
-    accepts(
-        &mut book,
-        &[(Step::Letter(3, 4, 2), 7), (Step::Slow(4, 3, 15), 4)],
-    )?;
-    points(&book, 4, 0, 0)?;
-    write(&mut book, 5, [0, 0, 2])?;
-    accepts(
-        &mut book,
-        &[(Step::Letter(3, 5, 0), 11), (Step::Slow(5, 2, 15), 5)],
-    )?;
-    points(&book, 5, 1, 0)
+    let rows = [
+        Row::Writes(3, [1, 1, 0]),
+        Row::Takes(Step::Slow(3, 1, 7), 3),
+        Row::Writes(4, [2, 2, 3]),
+        Row::Takes(Step::Letter(3, 4, 2), 7),
+        Row::Takes(Step::Slow(4, 3, 15), 4),
+        Row::Has(4, Fact::Points(0, 0)),
+        Row::Writes(5, [0, 0, 2]),
+        Row::Takes(Step::Letter(3, 5, 0), 11),
+        Row::Takes(Step::Slow(5, 2, 15), 5),
+        Row::Has(5, Fact::Points(1, 0)),
+    ];
+    plays(rt.alloc(), &[&TWO, &rows])
 }
 
 #[test]
 fn the_latest_letter_is_reported(rt: LibcRuntime) -> Result<(), Fail> {
-    let mut book = two(rt.alloc())?;
-    write(&mut book, 3, [0, 0, 1])?;
-    write(&mut book, 4, [0, 0, 0])?;
-    write(&mut book, 3, [2, 1, 1])?;
-    accepts(&mut book, &[(Step::Slow(3, 2, 7), 3)])?;
-    reports(&book, 3, &[(0, Some(2)), (1, Some(1)), (2, Some(1))])
+    let rows = [
+        Row::Writes(3, [0, 0, 1]),
+        Row::Writes(4, [0, 0, 0]),
+        Row::Writes(3, [2, 1, 1]),
+        Row::Takes(Step::Slow(3, 2, 7), 3),
+        Row::Has(3, Fact::Report(0, Some(2))),
+        Row::Has(3, Fact::Report(1, Some(1))),
+        Row::Has(3, Fact::Report(2, Some(1))),
+    ];
+    plays(rt.alloc(), &[&TWO, &rows])
 }
 
 // Block 3 is slow and block 4 fast, both of view 3; the views of their certificates decide.
 #[test]
 fn certificates_decide_between_equal_views(rt: LibcRuntime) -> Result<(), Fail> {
-    let mut book = two(rt.alloc())?;
-    elect(&mut book, 2)?;
-    write(&mut book, 3, [1, 1, 1])?;
-    accepts(
-        &mut book,
-        &[(Step::Slow(3, 1, 7), 3), (Step::Fast(3, 2, 7), 4)],
-    )?;
-    ranks(&book, &[(3, (3, 1)), (4, (3, 2))])?;
-    write(&mut book, 5, [3, 3, 4])?;
-    refuses(&mut book, &[(Step::Slow(5, 3, 7), 15)])?;
-    accepts(&mut book, &[(Step::Slow(5, 4, 7), 5)])
+    let rows = [
+        Row::Elects(2),
+        Row::Writes(3, [1, 1, 1]),
+        Row::Takes(Step::Slow(3, 1, 7), 3),
+        Row::Takes(Step::Fast(3, 2, 7), 4),
+        Row::Rank(3, 3, 1),
+        Row::Rank(4, 3, 2),
+        Row::Writes(5, [3, 3, 4]),
+        Row::Refuses(Step::Slow(5, 3, 7), 15),
+        Row::Takes(Step::Slow(5, 4, 7), 5),
+    ];
+    plays(rt.alloc(), &[&TWO, &rows])
 }
 
 // Block 4 has the higher view and the lower certificate.
 #[test]
 fn the_view_decides_first(rt: LibcRuntime) -> Result<(), Fail> {
-    let mut book = two(rt.alloc())?;
-    elect(&mut book, 2)?;
-    write(&mut book, 4, [1, 1, 0])?;
-    accepts(
-        &mut book,
-        &[(Step::Fast(3, 2, 7), 3), (Step::Slow(4, 1, 7), 4)],
-    )?;
-    ranks(&book, &[(3, (3, 2)), (4, (4, 0))])?;
-    write(&mut book, 5, [3, 4, 4])?;
-    refuses(&mut book, &[(Step::Slow(5, 3, 7), 15)])?;
-    accepts(&mut book, &[(Step::Slow(5, 4, 7), 5)])
+    let rows = [
+        Row::Elects(2),
+        Row::Writes(4, [1, 1, 0]),
+        Row::Takes(Step::Fast(3, 2, 7), 3),
+        Row::Takes(Step::Slow(4, 1, 7), 4),
+        Row::Rank(3, 3, 2),
+        Row::Rank(4, 4, 0),
+        Row::Writes(5, [3, 4, 4]),
+        Row::Refuses(Step::Slow(5, 3, 7), 15),
+        Row::Takes(Step::Slow(5, 4, 7), 5),
+    ];
+    plays(rt.alloc(), &[&TWO, &rows])
 }
 
 // Either block of equal rank may be the parent.
 #[test]
 fn equal_ranks(rt: LibcRuntime) -> Result<(), Fail> {
-    let mut book = forked(rt.alloc())?;
-    accepts(&mut book, &[(Step::Slow(5, 4, 7), 5)])?;
-    points(&book, 5, 2, 1)?;
-    elect(&mut book, 5)?;
-    accepts(&mut book, &[(Step::Fast(6, 5, 7), 6)])?;
-    points(&book, 6, 5, 2)
+    let rows = [
+        Row::Takes(Step::Slow(5, 4, 7), 5),
+        Row::Has(5, Fact::Points(2, 1)),
+        Row::Elects(5),
+        Row::Takes(Step::Fast(6, 5, 7), 6),
+        Row::Has(6, Fact::Points(5, 2)),
+    ];
+    plays(rt.alloc(), &[&TWO, &FORK, &rows])
 }
 
 #[test]
 fn a_clash_holds_the_commit_point_back(rt: LibcRuntime) -> Result<(), Fail> {
-    let mut book = clashing(rt.alloc())?;
-    points(&book, 5, 3, 2)?;
-    elect(&mut book, 5)?;
-    accepts(&mut book, &[(Step::Fast(6, 5, 7), 6)])?;
-    points(&book, 6, 5, 2)
+    let rows = [
+        Row::Has(5, Fact::Points(3, 2)),
+        Row::Elects(5),
+        Row::Takes(Step::Fast(6, 5, 7), 6),
+        Row::Has(6, Fact::Points(5, 2)),
+    ];
+    plays(rt.alloc(), &[&TWO, &FORK, &CLASH, &rows])
 }
 
 // The clash is at block 5, below the certificate, block 6, of the last block.
 #[test]
 fn a_clash_is_found_further_down(rt: LibcRuntime) -> Result<(), Fail> {
-    let mut book = clashing(rt.alloc())?;
-    write(&mut book, 7, [5, 5, 3])?;
-    accepts(&mut book, &[(Step::Slow(7, 5, 7), 6)])?;
-    points(&book, 6, 3, 2)?;
-    elect(&mut book, 6)?;
-    accepts(&mut book, &[(Step::Fast(8, 6, 7), 7)])?;
-    points(&book, 7, 6, 2)
+    let rows = [
+        Row::Writes(7, [5, 5, 3]),
+        Row::Takes(Step::Slow(7, 5, 7), 6),
+        Row::Has(6, Fact::Points(3, 2)),
+        Row::Elects(6),
+        Row::Takes(Step::Fast(8, 6, 7), 7),
+        Row::Has(7, Fact::Points(6, 2)),
+    ];
+    plays(rt.alloc(), &[&TWO, &FORK, &CLASH, &rows])
 }
 
 #[test]
 fn what_stands_on_what(rt: LibcRuntime) -> Result<(), Fail> {
-    let book = clashing(rt.alloc())?;
-    for (block, below, stands) in [
-        (5, 5, true),
-        (5, 3, true),
-        (5, 0, true),
-        (5, 4, false),
-        (4, 3, false),
-        (3, 5, false),
-        (0, 0, true),
-    ] {
-        check_eq(book.stands_on(block, below), Some(stands))?;
-    }
-    check(book.stands_on(6, 0).is_none() && book.stands_on(0, 6).is_none())
+    let rows = [
+        Row::Stands(5, 5, Some(true)),
+        Row::Stands(5, 3, Some(true)),
+        Row::Stands(5, 0, Some(true)),
+        Row::Stands(5, 4, Some(false)),
+        Row::Stands(4, 3, Some(false)),
+        Row::Stands(3, 5, Some(false)),
+        Row::Stands(0, 0, Some(true)),
+        Row::Stands(6, 0, None),
+        Row::Stands(0, 6, None),
+    ];
+    plays(rt.alloc(), &[&TWO, &FORK, &CLASH, &rows])
 }
 
 #[test]
 fn the_highest_view_is_not_always_the_last(rt: LibcRuntime) -> Result<(), Fail> {
-    let mut book = two(rt.alloc())?;
-    check_eq(book.highest_view(), Some(2))?;
-    write(&mut book, 9, [2, 2, 2])?;
-    write(&mut book, 4, [2, 2, 2])?;
-    accepts(
-        &mut book,
-        &[(Step::Slow(9, 2, 7), 3), (Step::Slow(4, 2, 7), 4)],
-    )?;
-    check_eq(book.highest_view(), Some(9))
+    let rows = [
+        Row::HighestView(2),
+        Row::Writes(9, [2, 2, 2]),
+        Row::Writes(4, [2, 2, 2]),
+        Row::Takes(Step::Slow(9, 2, 7), 3),
+        Row::Takes(Step::Slow(4, 2, 7), 4),
+        Row::HighestView(9),
+    ];
+    plays(rt.alloc(), &[&TWO, &rows])
 }
 
 // A kept leader has one block of its view; the open seat has as many as it likes.
 #[test]
 fn one_block_of_a_kept_leader(rt: LibcRuntime) -> Result<(), Fail> {
-    let mut book = two(rt.alloc())?;
-    elect(&mut book, 2)?;
-    refuses(&mut book, &[(Step::Fast(2, 1, 7), 12)])?;
-    accepts(
-        &mut book,
-        &[(Step::Fast(3, 2, 7), 3), (Step::Fast(3, 2, 7), 4)],
-    )
+    let rows = [
+        Row::Elects(2),
+        Row::Refuses(Step::Fast(2, 1, 7), 12),
+        Row::Takes(Step::Fast(3, 2, 7), 3),
+        Row::Takes(Step::Fast(3, 2, 7), 4),
+    ];
+    plays(rt.alloc(), &[&TWO, &rows])
 }
 
 #[test]
 fn the_256th_block_is_the_last(rt: LibcRuntime) -> Result<(), Fail> {
-    let mut book = Book::new(rt.alloc(), 4)?;
-    for parent in 0..255 {
-        accepts(
-            &mut book,
-            &[(Step::Fast(parent + 1, parent, 7), parent + 1)],
-        )?;
-        elect(&mut book, parent + 1)?;
-    }
-    // 11 comes after 2, 4 and 5, and before the rest
-    refuses(
-        &mut book,
-        &[
-            (Step::Fast(256, 255, 7), 11),
-            (Step::Slow(255, 255, 0), 11),
-            (Step::Fast(0, 255, 7), 5),
-            (Step::Slow(0, 256, 7), 4),
-        ],
-    )?;
-    check_eq(book.blocks(), 256)?;
-    check_eq(book.highest_view(), Some(255))?;
-    points(&book, 255, 254, 253)
+    let rows = [
+        Row::Grows(255),
+        // 11 comes after 2, 4 and 5, and before the rest
+        Row::Refuses(Step::Fast(256, 255, 7), 11),
+        Row::Refuses(Step::Slow(255, 255, 0), 11),
+        Row::Refuses(Step::Fast(0, 255, 7), 5),
+        Row::Refuses(Step::Slow(0, 256, 7), 4),
+        Row::Counts(256, 0),
+        Row::HighestView(255),
+        Row::Has(255, Fact::Points(254, 253)),
+    ];
+    plays(rt.alloc(), &[&rows])
 }
 
 #[test]
 fn the_512th_letter_is_the_last(rt: LibcRuntime) -> Result<(), Fail> {
-    let mut book = Book::new(rt.alloc(), 4)?;
-    for held in 0..512 {
-        accepts(&mut book, &[(Step::Letter(3, 1, 0), held + 1)])?;
+    let rows = [
+        Row::Piles(512),
+        Row::Refuses(Step::Letter(0, 1, 0), 10),
+        Row::Refuses(Step::Letter(0, 0, 0), 5),
+        Row::Counts(1, 512),
+    ];
+    plays(rt.alloc(), &[&rows])
+}
+
+fn asked(book: &mut Book, rule: &WeightRule, turns: &Listed) -> Result<(), Fail> {
+    let nobody = SeatSet { bits: 0 };
+    // seats 1 and 2 are no quorum
+    refused(book.fast(rule, turns, nobody, &proposal(1, 0, 6)), 13)?;
+    for &(number, parent, maker) in &[(1, 0, 2), (2, 1, 0)] {
+        let answer = book.fast(rule, turns, nobody, &proposal(number, parent, 1));
+        enters(book, answer, number, maker)?;
     }
-    refuses(
-        &mut book,
-        &[(Step::Letter(0, 1, 0), 10), (Step::Letter(0, 0, 0), 5)],
-    )?;
-    check_eq(book.letters(), 512)
+    Ok(())
+}
+
+// A block that enters, its maker, and seat 0's vote for it.
+fn enters(
+    book: &mut Book,
+    answer: Result<u32, Refusal>,
+    number: u32,
+    maker: u8,
+) -> Result<(), Fail> {
+    check_eq(answer?, number)?;
+    block_has(book, number, Fact::Maker(Some(maker)))?;
+    takes(book, Step::Vote(0, number), 1)
 }
 
 // Another rule and another rotation: seat 0 alone is a quorum, and leads view 2.
 #[test]
 fn rule_and_rotation_are_asked(rt: LibcRuntime) -> Result<(), Fail> {
     let heap = rt.alloc();
-    let rule = WeightRule::new([5, 1, 1].to_vec(heap)?)?;
-    let turns = Listed::new(3, [2, 0].to_vec(heap)?)?;
+    let rule = weigh(heap, &[5, 1, 1])?;
+    let turns = list(heap, 3, &[2, 0])?;
     let mut book = Book::new(heap, 3)?;
     asked(&mut book, &rule, &turns)
-}
-
-fn asked(book: &mut Book, rule: &WeightRule, turns: &Listed) -> Result<(), Fail> {
-    let nobody = SeatSet { bits: 0 };
-    match book.fast(rule, turns, nobody, &proposal(1, 0, 6)) {
-        Ok(_) => return Err(Fail::new("seats 1 and 2 are no quorum")),
-        Err(refusal) => check_eq(refusal.number(), 13)?,
-    }
-    check_eq(book.fast(rule, turns, nobody, &proposal(1, 0, 1))?, 1)?;
-    check_eq(book.add_vote(0, 1)?, 1)?;
-    check_eq(book.fast(rule, turns, nobody, &proposal(2, 1, 1))?, 2)?;
-    makers(book, &[(1, 2), (2, 0)])
-}
-
-fn makers(book: &Book, told: &[(u32, u8)]) -> Result<(), Fail> {
-    for &(number, seat) in told {
-        check_eq(block(book, number)?.maker(), Some(seat))?;
-    }
-    Ok(())
 }

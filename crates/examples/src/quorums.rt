@@ -1,71 +1,115 @@
+use crate::common::numbered;
+use crate::common::refused;
+use crate::common::weigh;
 use quorum::count::CountRule;
 use quorum::count::CountRuleQuorum;
 use quorum::rule::QuorumRule;
 use quorum::seats::SeatSet;
 use quorum::weight::WeightRule;
 use quorum::weight::WeightRuleQuorum;
+use refusal::Refusal;
 use refusal::RefusalDebug;
+use std::alloc::Global;
 use std::test::*;
 
 fn of(bits: u64) -> SeatSet {
     SeatSet { bits }
 }
 
+// What is told, beside what should be.
+fn equal(pairs: &[(u64, u64)]) -> Result<(), Fail> {
+    for &(told, expected) in pairs {
+        check_eq(told, expected)?;
+    }
+    Ok(())
+}
+
 #[test]
 fn sets_of_seats() -> Result<(), Fail> {
-    check_eq(SeatSet::everyone(4).bits, 15)?;
-    check_eq(SeatSet::everyone(64).bits, u64::MAX)?;
-    check_eq(SeatSet::everyone(200).bits, u64::MAX)?;
-    check_eq(of(8).everyone_but(4).bits, 7)?;
-    check_eq(of(8).union(of(3)).bits, 11)?;
-    check_eq(of(11).count(), 3)?;
+    equal(
+        &[
+            (SeatSet::everyone(4).bits, 15),
+            (SeatSet::everyone(64).bits, u64::MAX),
+            (SeatSet::everyone(200).bits, u64::MAX),
+            (of(8).everyone_but(4).bits, 7),
+            (of(8).union(of(3)).bits, 11),
+            (u64::from(of(11).count()), 3),
+        ],
+    )?;
     check(of(8).holds(3) && !of(8).holds(2) && !of(8).holds(67))?;
     check(of(8).is_within(4) && !of(8).is_within(3) && of(u64::MAX).is_within(64))
+}
+
+// Whether a set of seats is a quorum, and whether it is tolerated.
+fn judges<R: QuorumRule>(rule: &R, told: &[(u64, bool, bool)]) -> Result<(), Fail> {
+    for &(bits, quorum, tolerated) in told {
+        let set = of(bits);
+        check_eq(
+            (rule.is_quorum(set), rule.is_tolerated(set)),
+            (quorum, tolerated),
+        )?;
+    }
+    Ok(())
 }
 
 #[test]
 fn one_faulty_seat_of_four() -> Result<(), Fail> {
     let rule = CountRule::new(1)?;
     check_eq(rule.seats(), 4)?;
-    check(rule.is_quorum(of(7)) && rule.is_quorum(of(15)) && !rule.is_quorum(of(3)))?;
-    check(rule.is_tolerated(of(0)) && rule.is_tolerated(of(8)) && !rule.is_tolerated(of(9)))?;
-    // seat 4 is none of the four
-    check(!rule.is_quorum(of(23)) && !rule.is_tolerated(of(16)))
+    judges(
+        &rule,
+        &[
+            (7, true, false),
+            (15, true, false),
+            (3, false, false),
+            (0, false, true),
+            (8, false, true),
+            (9, false, false),
+            // seat 4 is none of the four
+            (23, false, false),
+            (16, false, false),
+        ],
+    )
+}
+
+fn seats_for(faults: u8) -> Result<u32, Refusal> {
+    Ok(u32::from(CountRule::new(faults)?.seats()))
 }
 
 #[test]
 fn limits_of_the_count_rule() -> Result<(), Fail> {
-    check_eq(CountRule::new(21)?.seats(), 64)?;
-    check_eq(CountRule::new(0)?.seats(), 1)?;
-    match CountRule::new(22) {
-        Ok(_) => Err(Fail::new("22 faults")),
-        Err(refusal) => check_eq(refusal.number(), 17),
+    for (faults, seats) in [(21, Ok(64)), (0, Ok(1)), (22, Err(17))] {
+        check_eq(numbered(seats_for(faults)), seats)?;
     }
+    Ok(())
 }
 
 #[test]
 fn weights_5_1_1(rt: LibcRuntime) -> Result<(), Fail> {
-    let rule = WeightRule::new([5, 1, 1].to_vec(rt.alloc())?)?;
+    let rule = weigh(rt.alloc(), &[5, 1, 1])?;
     check_eq(rule.seats(), 3)?;
-    check(rule.is_quorum(of(1)) && !rule.is_quorum(of(6)))?;
-    check(rule.is_tolerated(of(6)) && !rule.is_tolerated(of(1)))?;
-    check(!rule.is_quorum(of(9)) && !rule.is_tolerated(of(8)))
+    judges(
+        &rule,
+        &[
+            (1, true, false),
+            (6, false, true),
+            // seat 3 is none of the three
+            (9, false, false),
+            (8, false, false),
+        ],
+    )
+}
+
+fn refuses(heap: Global, lists: &[&[u16]]) -> Result<(), Fail> {
+    for &weights in lists {
+        refused(WeightRule::new(weights.to_vec(heap)?), 18)?;
+    }
+    Ok(())
 }
 
 #[test]
 fn limits_of_the_weight_rule(rt: LibcRuntime) -> Result<(), Fail> {
     let heap = rt.alloc();
-    check_eq(WeightRule::new([65535; 32].to_vec(heap)?)?.total(), 2097120)?;
-    for weights in [
-        [0; 33].to_vec(heap)?,
-        [1; 33].to_vec(heap)?,
-        [0; 32].to_vec(heap)?,
-        Vec::new(heap),
-    ] {
-        match WeightRule::new(weights) {
-            Ok(_) => return Err(Fail::new("weights out of range")),
-            Err(refusal) => check_eq(refusal.number(), 18)?,
-        }
-    }
-    Ok(())
+    check_eq(weigh(heap, &[65535; 32])?.total(), 2097120)?;
+    refuses(heap, &[&[0; 33], &[1; 33], &[0; 32], &[]])
 }

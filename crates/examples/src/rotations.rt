@@ -1,64 +1,99 @@
-use refusal::Refusal;
+use crate::common::list;
+use crate::common::refused;
 use refusal::RefusalDebug;
 use rotation::listed::Listed;
 use rotation::listed::ListedRotation;
 use rotation::robin::RoundRobin;
 use rotation::robin::RoundRobinRotation;
 use rotation::turns::Rotation;
+use std::alloc::Global;
 use std::test::*;
 
-// A rotation that is refused, by its number.
-fn refused<T: Drop>(made: Result<T, Refusal>) -> Result<(), Fail> {
-    match made {
-        Ok(_) => Err(Fail::new("a rotation out of range")),
-        Err(refusal) => check_eq(refusal.number(), 19),
+// The leader of a view.
+fn leads<T: Rotation>(turns: &T, told: &[(u32, Option<u8>)]) -> Result<(), Fail> {
+    for &(view, seat) in told {
+        check_eq(turns.leader(view), seat)?;
     }
+    Ok(())
+}
+
+// A seat, a view, and the seat's next turn from there.
+fn next<T: Rotation>(turns: &T, told: &[(u8, u32, Option<u32>)]) -> Result<(), Fail> {
+    for &(seat, from, view) in told {
+        check_eq(turns.next_turn(seat, from), view)?;
+    }
+    Ok(())
 }
 
 #[test]
 fn round_robin() -> Result<(), Fail> {
     let turns = RoundRobin::new(4)?;
-    check_eq(turns.leader(1), Some(1))?;
-    check_eq(turns.leader(4), Some(0))?;
-    check_eq(turns.leader(1_000_000), Some(0))?;
-    check_eq(turns.leader(1_000_001), None)?;
-    check_eq(turns.leader(0), None)?;
-    check_eq(turns.next_turn(0, 1), Some(4))?;
-    check_eq(turns.next_turn(1, 1), Some(1))?;
-    check_eq(turns.next_turn(0, 1_000_000), Some(1_000_000))?;
-    check_eq(turns.next_turn(1, 999_999), None)?;
-    check_eq(turns.next_turn(4, 1), None)?;
-    check_eq(turns.next_turn(0, 0), None)
+    leads(
+        &turns,
+        &[
+            (1, Some(1)),
+            (4, Some(0)),
+            (1_000_000, Some(0)),
+            (1_000_001, None),
+            (0, None),
+        ],
+    )?;
+    next(
+        &turns,
+        &[
+            (0, 1, Some(4)),
+            (1, 1, Some(1)),
+            (0, 1_000_000, Some(1_000_000)),
+            (1, 999_999, None),
+            (4, 1, None),
+            (0, 0, None),
+        ],
+    )
 }
 
 #[test]
 fn round_robin_alone_and_named() -> Result<(), Fail> {
-    check_eq(RoundRobin::new(1)?.leader(7), Some(0))?;
-    check_eq(RoundRobin::starting_at(4, 3)?.leader(2), Some(0))?;
-    refused(RoundRobin::new(0))?;
-    refused(RoundRobin::new(65))?;
-    refused(RoundRobin::starting_at(4, 4))
+    leads(&RoundRobin::new(1)?, &[(7, Some(0))])?;
+    leads(&RoundRobin::starting_at(4, 3)?, &[(2, Some(0))])?;
+    refused(RoundRobin::new(0), 19)?;
+    refused(RoundRobin::new(65), 19)?;
+    refused(RoundRobin::starting_at(4, 4), 19)
 }
 
 #[test]
 fn listed(rt: LibcRuntime) -> Result<(), Fail> {
-    let heap = rt.alloc();
-    let turns = Listed::new(4, [2, 0, 2].to_vec(heap)?)?;
-    check_eq(turns.leader(1), Some(2))?;
-    check_eq(turns.leader(5), Some(0))?;
-    check_eq(turns.next_turn(0, 3), Some(5))?;
-    check_eq(turns.next_turn(2, 3), Some(3))?;
-    check_eq(turns.next_turn(1, 1), None)?;
-    check_eq(turns.next_turn(0, 1_000_000), None)
+    let turns = list(rt.alloc(), 4, &[2, 0, 2])?;
+    leads(&turns, &[(1, Some(2)), (5, Some(0))])?;
+    next(
+        &turns,
+        &[
+            (0, 3, Some(5)),
+            (2, 3, Some(3)),
+            (1, 1, None),
+            (0, 1_000_000, None),
+        ],
+    )
+}
+
+fn refuses(heap: Global, lists: &[(u8, &[u8])]) -> Result<(), Fail> {
+    for &(seats, order) in lists {
+        refused(Listed::new(seats, order.to_vec(heap)?), 19)?;
+    }
+    Ok(())
 }
 
 #[test]
 fn lists_out_of_range(rt: LibcRuntime) -> Result<(), Fail> {
     let heap = rt.alloc();
-    check_eq(Listed::new(1, [0; 256].to_vec(heap)?)?.leader(300), Some(0))?;
-    refused(Listed::new(4, Vec::new(heap)))?;
-    refused(Listed::new(4, [0; 257].to_vec(heap)?))?;
-    refused(Listed::new(4, [0, 4].to_vec(heap)?))?;
-    refused(Listed::new(0, [0].to_vec(heap)?))?;
-    refused(Listed::new(65, [0].to_vec(heap)?))
+    leads(&list(heap, 1, &[0; 256])?, &[(300, Some(0))])?;
+    refuses(
+        heap,
+        &[
+            (4, &[]),
+            (4, &[0; 257]),
+            (4, &[0, 4]),
+            (0, &[0]),
+            (65, &[0]),
+        ],
+    )
 }
