@@ -45,9 +45,8 @@ impl Inner {
         }
     }
 
-    // The view of a block.
+    // The view of a block, or 0 where there is none.
     fn view_of(&self, b: u32) -> u32
-        requires { ⌜ b < vec-len (now self .book .blocks) ⌝ }
         ensures { λ r. ⌜ r ≡ at (vec-items (now (self .entry) .book .blocks)) b .view ⌝ }
     {
         match self.book.find(b) {
@@ -62,10 +61,7 @@ impl Inner {
         requires c_held { ⌜ c < vec-len (now self .book .blocks) ⌝ }
         ensures { λ r. ⌜ r ≡ stands (vec-items (now (self .entry) .book .blocks)) b c ⌝ }
     {
-        match self.book.stands_on(b, c) {
-            Some(stands) => stands,
-            None => false,
-        }
+        matches!(self.book.stands_on(b, c), Some(true))
     }
 
     // The tip of a seat after it was shown a commit point, which is taken if it stands on the tip.
