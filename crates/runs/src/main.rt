@@ -1,6 +1,7 @@
 // Plays the worked runs and the limits through the public calls, and prints what comes beside what should.
 mod limits;
 mod refusals;
+mod table;
 mod worked;
 
 use refusal::Refusal;
