@@ -74,7 +74,7 @@ enum Row {
     Rank(u32, u32, u32),
     // a number that no block has
     Absent(u32),
-    // two blocks, and whether the first stands on the second
+    // two blocks, and whether the first stands on the second, where there are both
     Stands(u32, u32, Option<bool>),
     HighestView(u32),
 }
