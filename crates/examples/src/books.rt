@@ -72,7 +72,7 @@ enum Row {
     Rank(u32, u32, u32),
     // a number that no block has
     Absent(u32),
-    // two blocks, and whether the first stands on the second
+    // two blocks, and whether the first stands on the second, where there are both
     Stands(u32, u32, Option<bool>),
     HighestView(u32),
 }
@@ -210,24 +210,28 @@ fn play(book: &mut Book, rows: &[Row]) -> Result<(), Fail> {
     Ok(())
 }
 
-// A test: rows on a new book, part by part.
-fn plays(heap: Global, parts: &[&[Row]]) -> Result<(), Fail> {
-    let mut book = Book::new(heap, 4)?;
+fn play_parts(book: &mut Book, parts: &[&[Row]]) -> Result<(), Fail> {
     for rows in parts {
-        play(&mut book, rows)?;
+        play(book, rows)?;
     }
     Ok(())
 }
 
+// A test: rows on a new book, part by part.
+fn plays(heap: Global, parts: &[&[Row]]) -> Result<(), Fail> {
+    let mut book = Book::new(heap, 4)?;
+    play_parts(&mut book, parts)
+}
+
 // Block 1 of view 1 and, on the votes of 0, 1 and 2 for it, block 2 of view 2.
-const TWO: [Row; 3] = [
+const TWO: &[Row] = &[
     Row::Takes(Step::Fast(1, 0, 7), 1),
     Row::Elects(1),
     Row::Takes(Step::Fast(2, 1, 7), 2),
 ];
 
 // And, as only 0 and 1 voted for block 2, the slow block 3 of view 3 on it.
-const SLOW: [Row; 5] = [
+const SLOW: &[Row] = &[
     Row::Takes(Step::Vote(0, 2), 1),
     Row::Takes(Step::Vote(1, 2), 2),
     Row::Writes(3, [2, 2, 1]),
@@ -237,7 +241,7 @@ const SLOW: [Row; 5] = [
 
 // Or two blocks of view 3, which is led by the open seat: 0 and 1 vote for block 3, and 2 for block 4. Each names its own
 // to view 5.
-const FORK: [Row; 7] = [
+const FORK: &[Row] = &[
     Row::Elects(2),
     Row::Takes(Step::Fast(3, 2, 7), 3),
     Row::Takes(Step::Fast(3, 2, 7), 4),
@@ -248,14 +252,14 @@ const FORK: [Row; 7] = [
 ];
 
 // And the open seat names block 3 as well, so that a quorum does, and block 5 stands on it.
-const CLASH: [Row; 2] = [
+const CLASH: &[Row] = &[
     Row::Takes(Step::Letter(3, 5, 3), 4),
     Row::Takes(Step::Slow(5, 3, 15), 5),
 ];
 
 #[test]
 fn the_first_block(rt: LibcRuntime) -> Result<(), Fail> {
-    let rows = [
+    const ROWS: &[Row] = &[
         Row::Counts(1, 0),
         Row::Has(0, Fact::Kind(Kind::First)),
         Row::Has(0, Fact::Place(0, 0, 0)),
@@ -268,22 +272,22 @@ fn the_first_block(rt: LibcRuntime) -> Result<(), Fail> {
         Row::Rank(0, 0, 0),
         Row::HighestView(0),
     ];
-    plays(rt.alloc(), &[&rows])
+    plays(rt.alloc(), &[ROWS])
 }
 
 #[test]
 fn no_block_is_told_of_before_it_enters(rt: LibcRuntime) -> Result<(), Fail> {
-    let rows = [
+    const ROWS: &[Row] = &[
         Row::Absent(1),
         Row::Stands(1, 0, None),
         Row::Stands(0, 1, None),
     ];
-    plays(rt.alloc(), &[&rows])
+    plays(rt.alloc(), &[ROWS])
 }
 
 #[test]
 fn parts_of_a_block(rt: LibcRuntime) -> Result<(), Fail> {
-    let rows = [
+    const ROWS: &[Row] = &[
         Row::Has(2, Fact::Kind(Kind::Fast)),
         Row::Has(2, Fact::Place(2, 1002, 2)),
         Row::Has(2, Fact::Parent(Some(1))),
@@ -293,12 +297,12 @@ fn parts_of_a_block(rt: LibcRuntime) -> Result<(), Fail> {
         Row::Has(1, Fact::Voters(7)),
         Row::Has(2, Fact::Voters(0)),
     ];
-    plays(rt.alloc(), &[&TWO, &rows])
+    plays(rt.alloc(), &[TWO, ROWS])
 }
 
 #[test]
 fn votes(rt: LibcRuntime) -> Result<(), Fail> {
-    let rows = [
+    const ROWS: &[Row] = &[
         // a vote again changes nothing
         Row::Takes(Step::Vote(0, 1), 3),
         Row::Takes(Step::Vote(3, 1), 4),
@@ -308,12 +312,12 @@ fn votes(rt: LibcRuntime) -> Result<(), Fail> {
         Row::Has(1, Fact::Voters(15)),
         Row::Has(2, Fact::Voters(4)),
     ];
-    plays(rt.alloc(), &[&TWO, &rows])
+    plays(rt.alloc(), &[TWO, ROWS])
 }
 
 #[test]
 fn letters_refused(rt: LibcRuntime) -> Result<(), Fail> {
-    let rows = [
+    const ROWS: &[Row] = &[
         Row::Refuses(Step::Letter(0, 0, 3), 4),
         Row::Refuses(Step::Letter(0, 0, 2), 5),
         Row::Refuses(Step::Letter(0, 1_000_001, 2), 5),
@@ -322,13 +326,13 @@ fn letters_refused(rt: LibcRuntime) -> Result<(), Fail> {
         Row::Takes(Step::Letter(0, 3, 2), 1),
         Row::Takes(Step::Letter(0, 1_000_000, 2), 2),
     ];
-    plays(rt.alloc(), &[&TWO, &rows])
+    plays(rt.alloc(), &[TWO, ROWS])
 }
 
 // Of several reasons the smallest number is given.
 #[test]
 fn fast_refused(rt: LibcRuntime) -> Result<(), Fail> {
-    let rows = [
+    const ROWS: &[Row] = &[
         Row::Refuses(Step::Fast(0, 9, 19), 2),
         Row::Refuses(Step::Fast(0, 9, 3), 4),
         Row::Refuses(Step::Fast(0, 2, 3), 5),
@@ -340,12 +344,12 @@ fn fast_refused(rt: LibcRuntime) -> Result<(), Fail> {
         Row::Refuses(Step::Fast(4, 1, 7), 15),
         Row::Refuses(Step::Fast(4, 0, 15), 15),
     ];
-    plays(rt.alloc(), &[&TWO, &rows])
+    plays(rt.alloc(), &[TWO, ROWS])
 }
 
 #[test]
 fn slow_refused(rt: LibcRuntime) -> Result<(), Fail> {
-    let rows = [
+    const ROWS: &[Row] = &[
         Row::Writes(4, [1, 0, 0]),
         Row::Refuses(Step::Slow(0, 9, 19), 2),
         Row::Refuses(Step::Slow(0, 9, 3), 4),
@@ -360,12 +364,12 @@ fn slow_refused(rt: LibcRuntime) -> Result<(), Fail> {
         Row::Refuses(Step::Slow(4, 0, 7), 15),
         Row::Takes(Step::Slow(4, 1, 7), 3),
     ];
-    plays(rt.alloc(), &[&TWO, &rows])
+    plays(rt.alloc(), &[TWO, ROWS])
 }
 
 #[test]
 fn fast_blocks_certify_their_parents(rt: LibcRuntime) -> Result<(), Fail> {
-    let rows = [
+    const ROWS: &[Row] = &[
         Row::Elects(2),
         Row::Takes(Step::Fast(3, 2, 7), 3),
         Row::Has(1, Fact::Points(0, 0)),
@@ -373,24 +377,24 @@ fn fast_blocks_certify_their_parents(rt: LibcRuntime) -> Result<(), Fail> {
         Row::Has(3, Fact::Points(2, 1)),
         Row::Rank(3, 3, 2),
     ];
-    plays(rt.alloc(), &[&TWO, &rows])
+    plays(rt.alloc(), &[TWO, ROWS])
 }
 
 #[test]
 fn a_slow_block_inherits(rt: LibcRuntime) -> Result<(), Fail> {
-    let rows = [
+    const ROWS: &[Row] = &[
         Row::Has(3, Fact::Points(1, 0)),
         Row::Rank(3, 3, 1),
         Row::Elects(3),
         Row::Takes(Step::Fast(4, 3, 7), 4),
         Row::Has(4, Fact::Points(3, 1)),
     ];
-    plays(rt.alloc(), &[&TWO, &SLOW, &rows])
+    plays(rt.alloc(), &[TWO, SLOW, ROWS])
 }
 
 #[test]
 fn reports_told(rt: LibcRuntime) -> Result<(), Fail> {
-    let rows = [
+    const ROWS: &[Row] = &[
         Row::Has(3, Fact::Kind(Kind::Slow)),
         Row::Has(3, Fact::Report(0, Some(2))),
         Row::Has(3, Fact::Report(1, Some(2))),
@@ -399,46 +403,46 @@ fn reports_told(rt: LibcRuntime) -> Result<(), Fail> {
         Row::Has(3, Fact::Report(3, None)),
         Row::Has(3, Fact::Report(66, None)),
     ];
-    plays(rt.alloc(), &[&TWO, &SLOW, &rows])
+    plays(rt.alloc(), &[TWO, SLOW, ROWS])
 }
 
 #[test]
 fn a_quorum_of_reports_certifies(rt: LibcRuntime) -> Result<(), Fail> {
-    let rows = [
+    const ROWS: &[Row] = &[
         Row::Writes(3, [2, 2, 2]),
         Row::Takes(Step::Slow(3, 2, 7), 3),
         Row::Has(3, Fact::Points(2, 1)),
     ];
-    plays(rt.alloc(), &[&TWO, &rows])
+    plays(rt.alloc(), &[TWO, ROWS])
 }
 
 // Block 3 stands on block 2, but a report of it is none of block 2.
 #[test]
 fn only_reports_of_the_block_itself_count(rt: LibcRuntime) -> Result<(), Fail> {
-    let rows = [
+    const ROWS: &[Row] = &[
         Row::Writes(4, [2, 2, 3]),
         Row::Takes(Step::Slow(4, 3, 7), 4),
         Row::Has(4, Fact::Points(1, 0)),
     ];
-    plays(rt.alloc(), &[&TWO, &SLOW, &rows])
+    plays(rt.alloc(), &[TWO, SLOW, ROWS])
 }
 
 // The quorum may name a block below the parent.
 #[test]
 fn a_quorum_certifies_below_the_parent(rt: LibcRuntime) -> Result<(), Fail> {
-    let rows = [
+    const ROWS: &[Row] = &[
         Row::Writes(4, [2, 2, 3]),
         Row::Takes(Step::Letter(3, 4, 2), 7),
         Row::Takes(Step::Slow(4, 3, 15), 4),
         Row::Has(4, Fact::Points(2, 1)),
     ];
-    plays(rt.alloc(), &[&TWO, &SLOW, &rows])
+    plays(rt.alloc(), &[TWO, SLOW, ROWS])
 }
 
 // But neither one that the parent does not stand on, nor one no later than the parent's certificate.
 #[test]
 fn a_quorum_off_the_chain_certifies_nothing(rt: LibcRuntime) -> Result<(), Fail> {
-    let rows = [
+    const ROWS: &[Row] = &[
         Row::Writes(3, [1, 1, 0]),
         Row::Takes(Step::Slow(3, 1, 7), 3),
         Row::Writes(4, [2, 2, 3]),
@@ -450,12 +454,12 @@ fn a_quorum_off_the_chain_certifies_nothing(rt: LibcRuntime) -> Result<(), Fail>
         Row::Takes(Step::Slow(5, 2, 15), 5),
         Row::Has(5, Fact::Points(1, 0)),
     ];
-    plays(rt.alloc(), &[&TWO, &rows])
+    plays(rt.alloc(), &[TWO, ROWS])
 }
 
 #[test]
 fn the_latest_letter_is_reported(rt: LibcRuntime) -> Result<(), Fail> {
-    let rows = [
+    const ROWS: &[Row] = &[
         Row::Writes(3, [0, 0, 1]),
         Row::Writes(4, [0, 0, 0]),
         Row::Writes(3, [2, 1, 1]),
@@ -464,13 +468,13 @@ fn the_latest_letter_is_reported(rt: LibcRuntime) -> Result<(), Fail> {
         Row::Has(3, Fact::Report(1, Some(1))),
         Row::Has(3, Fact::Report(2, Some(1))),
     ];
-    plays(rt.alloc(), &[&TWO, &rows])
+    plays(rt.alloc(), &[TWO, ROWS])
 }
 
 // Block 3 is slow and block 4 fast, both of view 3; the views of their certificates decide.
 #[test]
 fn certificates_decide_between_equal_views(rt: LibcRuntime) -> Result<(), Fail> {
-    let rows = [
+    const ROWS: &[Row] = &[
         Row::Elects(2),
         Row::Writes(3, [1, 1, 1]),
         Row::Takes(Step::Slow(3, 1, 7), 3),
@@ -481,13 +485,13 @@ fn certificates_decide_between_equal_views(rt: LibcRuntime) -> Result<(), Fail> 
         Row::Refuses(Step::Slow(5, 3, 7), 15),
         Row::Takes(Step::Slow(5, 4, 7), 5),
     ];
-    plays(rt.alloc(), &[&TWO, &rows])
+    plays(rt.alloc(), &[TWO, ROWS])
 }
 
 // Block 4 has the higher view and the lower certificate.
 #[test]
 fn the_view_decides_first(rt: LibcRuntime) -> Result<(), Fail> {
-    let rows = [
+    const ROWS: &[Row] = &[
         Row::Elects(2),
         Row::Writes(4, [1, 1, 0]),
         Row::Takes(Step::Fast(3, 2, 7), 3),
@@ -498,37 +502,37 @@ fn the_view_decides_first(rt: LibcRuntime) -> Result<(), Fail> {
         Row::Refuses(Step::Slow(5, 3, 7), 15),
         Row::Takes(Step::Slow(5, 4, 7), 5),
     ];
-    plays(rt.alloc(), &[&TWO, &rows])
+    plays(rt.alloc(), &[TWO, ROWS])
 }
 
 // Either block of equal rank may be the parent.
 #[test]
 fn equal_ranks(rt: LibcRuntime) -> Result<(), Fail> {
-    let rows = [
+    const ROWS: &[Row] = &[
         Row::Takes(Step::Slow(5, 4, 7), 5),
         Row::Has(5, Fact::Points(2, 1)),
         Row::Elects(5),
         Row::Takes(Step::Fast(6, 5, 7), 6),
         Row::Has(6, Fact::Points(5, 2)),
     ];
-    plays(rt.alloc(), &[&TWO, &FORK, &rows])
+    plays(rt.alloc(), &[TWO, FORK, ROWS])
 }
 
 #[test]
 fn a_clash_holds_the_commit_point_back(rt: LibcRuntime) -> Result<(), Fail> {
-    let rows = [
+    const ROWS: &[Row] = &[
         Row::Has(5, Fact::Points(3, 2)),
         Row::Elects(5),
         Row::Takes(Step::Fast(6, 5, 7), 6),
         Row::Has(6, Fact::Points(5, 2)),
     ];
-    plays(rt.alloc(), &[&TWO, &FORK, &CLASH, &rows])
+    plays(rt.alloc(), &[TWO, FORK, CLASH, ROWS])
 }
 
 // The clash is at block 5, below the certificate, block 6, of the last block.
 #[test]
 fn a_clash_is_found_further_down(rt: LibcRuntime) -> Result<(), Fail> {
-    let rows = [
+    const ROWS: &[Row] = &[
         Row::Writes(7, [5, 5, 3]),
         Row::Takes(Step::Slow(7, 5, 7), 6),
         Row::Has(6, Fact::Points(3, 2)),
@@ -536,12 +540,12 @@ fn a_clash_is_found_further_down(rt: LibcRuntime) -> Result<(), Fail> {
         Row::Takes(Step::Fast(8, 6, 7), 7),
         Row::Has(7, Fact::Points(6, 2)),
     ];
-    plays(rt.alloc(), &[&TWO, &FORK, &CLASH, &rows])
+    plays(rt.alloc(), &[TWO, FORK, CLASH, ROWS])
 }
 
 #[test]
 fn what_stands_on_what(rt: LibcRuntime) -> Result<(), Fail> {
-    let rows = [
+    const ROWS: &[Row] = &[
         Row::Stands(5, 5, Some(true)),
         Row::Stands(5, 3, Some(true)),
         Row::Stands(5, 0, Some(true)),
@@ -552,12 +556,12 @@ fn what_stands_on_what(rt: LibcRuntime) -> Result<(), Fail> {
         Row::Stands(6, 0, None),
         Row::Stands(0, 6, None),
     ];
-    plays(rt.alloc(), &[&TWO, &FORK, &CLASH, &rows])
+    plays(rt.alloc(), &[TWO, FORK, CLASH, ROWS])
 }
 
 #[test]
 fn the_highest_view_is_not_always_the_last(rt: LibcRuntime) -> Result<(), Fail> {
-    let rows = [
+    const ROWS: &[Row] = &[
         Row::HighestView(2),
         Row::Writes(9, [2, 2, 2]),
         Row::Writes(4, [2, 2, 2]),
@@ -565,24 +569,24 @@ fn the_highest_view_is_not_always_the_last(rt: LibcRuntime) -> Result<(), Fail> 
         Row::Takes(Step::Slow(4, 2, 7), 4),
         Row::HighestView(9),
     ];
-    plays(rt.alloc(), &[&TWO, &rows])
+    plays(rt.alloc(), &[TWO, ROWS])
 }
 
 // A kept leader has one block of its view; the open seat has as many as it likes.
 #[test]
 fn one_block_of_a_kept_leader(rt: LibcRuntime) -> Result<(), Fail> {
-    let rows = [
+    const ROWS: &[Row] = &[
         Row::Elects(2),
         Row::Refuses(Step::Fast(2, 1, 7), 12),
         Row::Takes(Step::Fast(3, 2, 7), 3),
         Row::Takes(Step::Fast(3, 2, 7), 4),
     ];
-    plays(rt.alloc(), &[&TWO, &rows])
+    plays(rt.alloc(), &[TWO, ROWS])
 }
 
 #[test]
 fn the_256th_block_is_the_last(rt: LibcRuntime) -> Result<(), Fail> {
-    let rows = [
+    const ROWS: &[Row] = &[
         Row::Grows(255),
         // 11 comes after 2, 4 and 5, and before the rest
         Row::Refuses(Step::Fast(256, 255, 7), 11),
@@ -593,18 +597,18 @@ fn the_256th_block_is_the_last(rt: LibcRuntime) -> Result<(), Fail> {
         Row::HighestView(255),
         Row::Has(255, Fact::Points(254, 253)),
     ];
-    plays(rt.alloc(), &[&rows])
+    plays(rt.alloc(), &[ROWS])
 }
 
 #[test]
 fn the_512th_letter_is_the_last(rt: LibcRuntime) -> Result<(), Fail> {
-    let rows = [
+    const ROWS: &[Row] = &[
         Row::Piles(512),
         Row::Refuses(Step::Letter(0, 1, 0), 10),
         Row::Refuses(Step::Letter(0, 0, 0), 5),
         Row::Counts(1, 512),
     ];
-    plays(rt.alloc(), &[&rows])
+    plays(rt.alloc(), &[ROWS])
 }
 
 fn asked(book: &mut Book, rule: &WeightRule, turns: &Listed) -> Result<(), Fail> {

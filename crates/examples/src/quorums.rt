@@ -100,16 +100,16 @@ fn weights_5_1_1(rt: LibcRuntime) -> Result<(), Fail> {
     )
 }
 
-fn refuses(heap: Global, lists: &[&[u16]]) -> Result<(), Fail> {
-    for &weights in lists {
-        refused(WeightRule::new(weights.to_vec(heap)?), 18)?;
-    }
-    Ok(())
+fn refuses(heap: Global, weights: &[u16]) -> Result<(), Fail> {
+    refused(WeightRule::new(weights.to_vec(heap)?), 18)
 }
 
 #[test]
 fn limits_of_the_weight_rule(rt: LibcRuntime) -> Result<(), Fail> {
     let heap = rt.alloc();
     check_eq(weigh(heap, &[65535; 32])?.total(), 2097120)?;
-    refuses(heap, &[&[0; 33], &[1; 33], &[0; 32], &[]])
+    refuses(heap, &[0; 33])?;
+    refuses(heap, &[1; 33])?;
+    refuses(heap, &[0; 32])?;
+    refuses(heap, &[])
 }

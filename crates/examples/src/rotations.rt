@@ -75,25 +75,17 @@ fn listed(rt: LibcRuntime) -> Result<(), Fail> {
     )
 }
 
-fn refuses(heap: Global, lists: &[(u8, &[u8])]) -> Result<(), Fail> {
-    for &(seats, order) in lists {
-        refused(Listed::new(seats, order.to_vec(heap)?), 19)?;
-    }
-    Ok(())
+fn refuses(heap: Global, seats: u8, order: &[u8]) -> Result<(), Fail> {
+    refused(Listed::new(seats, order.to_vec(heap)?), 19)
 }
 
 #[test]
 fn lists_out_of_range(rt: LibcRuntime) -> Result<(), Fail> {
     let heap = rt.alloc();
     leads(&list(heap, 1, &[0; 256])?, &[(300, Some(0))])?;
-    refuses(
-        heap,
-        &[
-            (4, &[]),
-            (4, &[0; 257]),
-            (4, &[0, 4]),
-            (0, &[0]),
-            (65, &[0]),
-        ],
-    )
+    refuses(heap, 4, &[])?;
+    refuses(heap, 4, &[0; 257])?;
+    refuses(heap, 4, &[0, 4])?;
+    refuses(heap, 0, &[0])?;
+    refuses(heap, 65, &[0])
 }

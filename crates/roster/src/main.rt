@@ -159,30 +159,37 @@ fn read_turns(heap: Global, word: &str, n: u8) -> Result<Turns, Fault> {
 }
 
 // The number of seats, and which sets of them decide or are tolerated.
+fn show_count(rt: &LibcRuntime, count: &CountRule) -> io::Result<()> {
+    let n = count.seats();
+    let decisive = count.decisive();
+    let faults = count.faults();
+    println!(
+        rt,
+        "seats      {n}\nquorum     {decisive} or more seats\ntolerated  {faults} or fewer seats"
+    )
+}
+
+fn show_weight(rt: &LibcRuntime, weight: &WeightRule) -> io::Result<()> {
+    let n = weight.seats();
+    let total = weight.total();
+    println!(rt, "seats      {n}, together of weight {total}")?;
+    let decisive = weight.decisive();
+    let tolerable = weight.tolerable();
+    println!(
+        rt,
+        "quorum     {decisive} or more of the weight\ntolerated  {tolerable} or less of the weight"
+    )
+}
+
 fn show_rule(rt: &LibcRuntime, rule: &Rule) -> io::Result<()> {
     match rule {
-        Rule::Count(count) => {
-            let n = count.seats();
-            let decisive = count.decisive();
-            let faults = count.faults();
-            println!(rt, "seats      {n}")?;
-            println!(rt, "quorum     {decisive} or more seats")?;
-            println!(rt, "tolerated  {faults} or fewer seats")
-        }
-        Rule::Weight(weight) => {
-            let n = weight.seats();
-            let total = weight.total();
-            let decisive = weight.decisive();
-            let tolerable = weight.tolerable();
-            println!(rt, "seats      {n}, together of weight {total}")?;
-            println!(rt, "quorum     {decisive} or more of the weight")?;
-            println!(rt, "tolerated  {tolerable} or less of the weight")
-        }
+        Rule::Count(count) => show_count(rt, count),
+        Rule::Weight(weight) => show_weight(rt, weight),
     }
 }
 
-// The leader of each view shown, and each seat's next turn.
-fn show_turns<T: Rotation>(rt: &LibcRuntime, turns: &T, views: u32, from: u32) -> io::Result<()> {
+// The leader of each view shown.
+fn show_leaders<T: Rotation>(rt: &LibcRuntime, turns: &T, views: u32, from: u32) -> io::Result<()> {
     let end = from.saturating_add(views).min(LAST_VIEW + 1);
     println!(rt, "\nview     leader")?;
     for view in from..end {
@@ -190,28 +197,46 @@ fn show_turns<T: Rotation>(rt: &LibcRuntime, turns: &T, views: u32, from: u32) -
             println!(rt, "{view:<7}  {leader}")?;
         }
     }
+    Ok(())
+}
+
+fn show_next_turn(rt: &LibcRuntime, seat: u8, turn: Option<u32>) -> io::Result<()> {
+    match turn {
+        Some(turn) => println!(rt, "{seat:<7}  {turn}"),
+        None => println!(rt, "{seat:<7}  none"),
+    }
+}
+
+// Each seat's next turn.
+fn show_next_turns<T: Rotation>(rt: &LibcRuntime, turns: &T, from: u32) -> io::Result<()> {
     println!(rt, "\nseat     next turn from view {from}")?;
     for seat in 0..turns.seats() {
-        match turns.next_turn(seat, from) {
-            Some(turn) => println!(rt, "{seat:<7}  {turn}")?,
-            None => println!(rt, "{seat:<7}  none")?,
-        }
+        show_next_turn(rt, seat, turns.next_turn(seat, from))?;
     }
     Ok(())
 }
 
-fn run(rt: &LibcRuntime) -> Result<(), Fault> {
-    let heap = rt.alloc();
-    let mut words = Vec::new(heap);
-    for word in env::args(rt)?.skip(1) {
-        words.push(word)?;
+fn show_turns<T: Rotation>(rt: &LibcRuntime, turns: &T, views: u32, from: u32) -> io::Result<()> {
+    show_leaders(rt, turns, views, from)?;
+    show_next_turns(rt, turns, from)
+}
+
+fn show_table(
+    rt: &LibcRuntime,
+    rule: &Rule,
+    turns: &Turns,
+    views: u32,
+    from: u32,
+) -> io::Result<()> {
+    show_rule(rt, rule)?;
+    match turns {
+        Turns::RoundRobin(robin) => show_turns(rt, robin, views, from),
+        Turns::Listed(listed) => show_turns(rt, listed, views, from),
     }
-    if words.len() < 3 || words.len() > 4 {
-        return Err(Fault::Unreadable);
-    }
-    let rule = read_rule(heap, words[0].as_str())?;
-    let turns = read_turns(heap, words[1].as_str(), rule.seats())?;
-    let views = read_view(words[2].as_str())?;
+}
+
+// The view to begin with.
+fn read_from(words: &[String]) -> Result<u32, Fault> {
     let from = if words.len() > 3 {
         read_view(words[3].as_str())?
     } else {
@@ -220,12 +245,27 @@ fn run(rt: &LibcRuntime) -> Result<(), Fault> {
     if !is_view(from) {
         return Err(Fault::Refused(Refusal::ViewOutOfRange));
     }
-    show_rule(rt, &rule)?;
-    match &turns {
-        Turns::RoundRobin(robin) => show_turns(rt, robin, views, from)?,
-        Turns::Listed(listed) => show_turns(rt, listed, views, from)?,
+    Ok(from)
+}
+
+// The table that the words ask for.
+fn answer(rt: &LibcRuntime, words: &[String]) -> Result<(), Fault> {
+    if words.len() < 3 || words.len() > 4 {
+        return Err(Fault::Unreadable);
     }
-    Ok(())
+    let rule = read_rule(rt.alloc(), words[0].as_str())?;
+    let turns = read_turns(rt.alloc(), words[1].as_str(), rule.seats())?;
+    let views = read_view(words[2].as_str())?;
+    let from = read_from(words)?;
+    Ok(show_table(rt, &rule, &turns, views, from)?)
+}
+
+fn run(rt: &LibcRuntime) -> Result<(), Fault> {
+    let mut words = Vec::new(rt.alloc());
+    for word in env::args(rt)?.skip(1) {
+        words.push(word)?;
+    }
+    answer(rt, words.as_slice())
 }
 
 fn main(rt: LibcRuntime) -> Result<(), Fault> {
