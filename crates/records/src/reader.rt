@@ -148,11 +148,7 @@ impl<'a> Reader<'a> {
             return None;
         }
         let record = decode(self.bytes, at);
-        if self.bytes.len() - at < 32 {
-            self.at = self.bytes.len();
-        } else {
-            self.at = at + 32;
-        }
+        self.at = self.bytes.len().min(at + 32);
         Some(record)
     }
 }
