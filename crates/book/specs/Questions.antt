@@ -11,10 +11,11 @@ use Rattle.quorum.specs.Seats.{held}
 use Rattle.book.specs.Kinds.{is-first, is-slow}
 use Rattle.book.specs.Pages.{chain, stands}
 use Rattle.book.specs.declared.block.Block.{Block}
+use Rattle.book.specs.declared.block.Origin.{Origin}
 
--- a part that the first block lacks
-abbrev pub of-later : {X : Type 0} → Block → X → Option X
-of-later b x = cond (is-first (b .kind)) None (Some x)
+-- where a block comes from; the first block comes from nowhere
+abbrev pub origin-told : Block → Option Origin
+origin-told b = cond (is-first (b .kind)) None (Some (record { parent = b .parent; maker = b .maker; heard = b .heard }))
 
 -- what a seat reported to a slow block that heard it
 abbrev pub report-told : Block → ℕ → Option ℕ

@@ -1,7 +1,7 @@
 // What a book holds.
 ghost use mathlib.Core.Path.{_≡_};
 ghost use Rattle.book.specs.Kinds.{is-first, is-slow};
-ghost use Rattle.book.specs.Questions.{of-later, report-told};
+ghost use Rattle.book.specs.Questions.{origin-told, report-told};
 use quorum::seats::SeatSet;
 
 // How a block was justified. The first block needs no justification.
@@ -22,7 +22,7 @@ impl Kind {
         }
     }
 
-    pub fn is_slow(self) -> bool
+    pub(crate) fn is_slow(self) -> bool
         ensures { λ r. ⌜ r ≡ is-slow self ⌝ }
     {
         match self {
@@ -57,35 +57,29 @@ pub struct Block {
 }
 
 // What the first block has none of.
+#[derive(Clone, Copy)]
+pub struct Origin {
+    // the block that it stands on
+    pub parent: u32,
+    // the seat that proposed it, the leader of its view
+    pub maker: u8,
+    // the seats that its maker heard from
+    pub heard: SeatSet,
+}
+
 impl Block {
-    // The block that it stands on.
-    pub fn parent(&self) -> Option<u32>
-        ensures { λ r. ⌜ r ≡ of-later (now (self .entry)) (now (self .entry) .parent) ⌝ }
+    // Where it comes from; the first block comes from nowhere.
+    pub fn origin(&self) -> Option<Origin>
+        ensures { λ r. ⌜ r ≡ origin-told (now (self .entry)) ⌝ }
     {
         if self.kind.is_first() {
             return None;
         }
-        Some(self.parent)
-    }
-
-    // The seat that proposed it, the leader of its view.
-    pub fn maker(&self) -> Option<u8>
-        ensures { λ r. ⌜ r ≡ of-later (now (self .entry)) (now (self .entry) .maker) ⌝ }
-    {
-        if self.kind.is_first() {
-            return None;
-        }
-        Some(self.maker)
-    }
-
-    // The seats that its maker heard from.
-    pub fn heard(&self) -> Option<SeatSet>
-        ensures { λ r. ⌜ r ≡ of-later (now (self .entry)) (now (self .entry) .heard) ⌝ }
-    {
-        if self.kind.is_first() {
-            return None;
-        }
-        Some(self.heard)
+        Some(Origin {
+            parent: self.parent,
+            maker: self.maker,
+            heard: self.heard,
+        })
     }
 
     // What a seat reported to it, where it is slow and heard the seat.

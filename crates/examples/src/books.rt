@@ -39,9 +39,8 @@ enum Fact {
     Kind(Kind),
     // its view, its payload and its height
     Place(u32, u64, u32),
-    Parent(Option<u32>),
-    Maker(Option<u8>),
-    Heard(Option<u64>),
+    // its parent, its maker and the heard seats
+    Origin(Option<(u32, u8, u64)>),
     // its certificate and its commit point
     Points(u32, u32),
     Voters(u64),
@@ -139,11 +138,9 @@ fn pile(book: &mut Book, count: u32) -> Result<(), Fail> {
     Ok(())
 }
 
-fn bits(set: Option<SeatSet>) -> Option<u64> {
-    match set {
-        Some(set) => Some(set.bits),
-        None => None,
-    }
+fn origin(block: &Block) -> Option<(u32, u8, u64)> {
+    let origin = block.origin()?;
+    Some((origin.parent, origin.maker, origin.heard.bits))
 }
 
 fn has(block: &Block, fact: Fact) -> Result<(), Fail> {
@@ -153,9 +150,7 @@ fn has(block: &Block, fact: Fact) -> Result<(), Fail> {
             (block.view, block.payload, block.height),
             (view, payload, height),
         ),
-        Fact::Parent(parent) => check_eq(block.parent(), parent),
-        Fact::Maker(maker) => check_eq(block.maker(), maker),
-        Fact::Heard(heard) => check_eq(bits(block.heard()), heard),
+        Fact::Origin(told) => check_eq(origin(block), told),
         Fact::Points(certificate, commit) => check_eq(
             (block.certificate, block.commit),
             (certificate, commit),
@@ -263,9 +258,7 @@ fn the_first_block(rt: LibcRuntime) -> Result<(), Fail> {
         Row::Counts(1, 0),
         Row::Has(0, Fact::Kind(Kind::First)),
         Row::Has(0, Fact::Place(0, 0, 0)),
-        Row::Has(0, Fact::Parent(None)),
-        Row::Has(0, Fact::Maker(None)),
-        Row::Has(0, Fact::Heard(None)),
+        Row::Has(0, Fact::Origin(None)),
         Row::Has(0, Fact::Points(0, 0)),
         Row::Has(0, Fact::Voters(15)),
         Row::Has(0, Fact::Report(0, None)),
@@ -290,9 +283,7 @@ fn parts_of_a_block(rt: LibcRuntime) -> Result<(), Fail> {
     const ROWS: &[Row] = &[
         Row::Has(2, Fact::Kind(Kind::Fast)),
         Row::Has(2, Fact::Place(2, 1002, 2)),
-        Row::Has(2, Fact::Parent(Some(1))),
-        Row::Has(2, Fact::Maker(Some(2))),
-        Row::Has(2, Fact::Heard(Some(7))),
+        Row::Has(2, Fact::Origin(Some((1, 2, 7)))),
         Row::Has(2, Fact::Report(0, None)),
         Row::Has(1, Fact::Voters(7)),
         Row::Has(2, Fact::Voters(0)),
@@ -617,20 +608,20 @@ fn asked(book: &mut Book, rule: &WeightRule, turns: &Listed) -> Result<(), Fail>
     refused(book.fast(rule, turns, nobody, &proposal(1, 0, 6)), 13)?;
     for &(number, parent, maker) in &[(1, 0, 2), (2, 1, 0)] {
         let answer = book.fast(rule, turns, nobody, &proposal(number, parent, 1));
-        enters(book, answer, number, maker)?;
+        enters(book, answer, number, (parent, maker, 1))?;
     }
     Ok(())
 }
 
-// A block that enters, its maker, and seat 0's vote for it.
+// A block that enters, where it comes from, and seat 0's vote for it.
 fn enters(
     book: &mut Book,
     answer: Result<u32, Refusal>,
     number: u32,
-    maker: u8,
+    origin: (u32, u8, u64),
 ) -> Result<(), Fail> {
     check_eq(answer?, number)?;
-    block_has(book, number, Fact::Maker(Some(maker)))?;
+    block_has(book, number, Fact::Origin(Some(origin)))?;
     takes(book, Step::Vote(0, number), 1)
 }
 
