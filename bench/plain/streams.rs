@@ -15,7 +15,7 @@ use std::io::{self, Write};
 use std::path::Path;
 use std::process::ExitCode;
 
-use book::{BlockId, Book, Proposal};
+use book::{BlockId, Book, Proposal, MAX_LETTERS};
 use cluster::{Call, Cluster};
 use record::{Rehearsal, MAX_RECORDS, RECORD_BYTES};
 use seats::{Seat, SeatSet, View, MAX_FAULTS, MAX_VIEW};
@@ -94,6 +94,8 @@ struct Profile {
     skip: u64,
     /// Odd shows, votes and letters after each view, at most.
     odd: u64,
+    /// A slow block is tried on another parent first.
+    other: u64,
     /// A record is damaged.
     damage: u64,
 }
@@ -108,6 +110,7 @@ const STEADY: Profile = Profile {
     bend: 5,
     skip: 3,
     odd: 2,
+    other: 15,
     damage: 0,
 };
 
@@ -130,6 +133,7 @@ impl Profile {
                 hide: 25,
                 twins: 70,
                 odd: 6,
+                other: 40,
                 ..STEADY
             },
             "forks" => Profile {
@@ -141,6 +145,7 @@ impl Profile {
                 twins: random.pick(&[60, 75]).unwrap_or(60),
                 bend: 1,
                 odd: 14,
+                other: 40,
                 ..STEADY
             },
             "full" => Profile {
@@ -171,7 +176,7 @@ impl Profile {
                 bend: 60,
                 skip: 10,
                 odd: 10,
-                damage: 0,
+                ..STEADY
             },
             "damaged" => Profile {
                 faults: (0, 3),
@@ -193,6 +198,7 @@ impl Profile {
                 bend: random.below(40),
                 skip: random.below(20),
                 odd: random.below(12),
+                other: random.below(50),
                 damage: random.pick(&[0, 0, 0, 2]).unwrap_or(0),
             },
             _ => STEADY,
@@ -208,6 +214,7 @@ struct Stream {
     faults: u64,
     open: SeatSet,
     blocks: u32,
+    letters: usize,
     bytes: Vec<u8>,
     rehearsal: Rehearsal,
 }
@@ -226,6 +233,7 @@ impl Stream {
             faults,
             open: SeatSet::default(),
             blocks: 1,
+            letters: 0,
             bytes: Vec::new(),
             rehearsal: Rehearsal::default(),
         }
@@ -312,8 +320,10 @@ impl Stream {
             self.damage(&mut record);
         }
         let answer = self.push(record)?;
-        if matches!(record[0], b'F' | b'S') {
-            self.blocks = answer + 1;
+        match record[0] {
+            b'F' | b'S' => self.blocks = answer + 1,
+            b'E' | b'L' => self.letters += 1,
+            _ => {}
         }
         Some(answer)
     }
@@ -425,7 +435,8 @@ impl Stream {
             0 => proposal.view = self.loose_view(proposal.view),
             1 => proposal.parent = self.loose_block(),
             2 => proposal.heard.0 &= self.random.next(),
-            3 => proposal.heard.0 |= 1 << self.random.below(64),
+            3 if self.random.percent(30) => proposal.heard.0 |= 1 << self.random.below(64),
+            3 => proposal.heard.0 |= 1 << self.random.below(self.seats() as u64),
             4 => {
                 proposal.heard.0 ^= 1 << self.random.below(self.seats() as u64);
                 proposal.heard.0 ^= 1 << self.random.below(self.seats() as u64);
@@ -522,6 +533,10 @@ impl Stream {
         if view >= MAX_VIEW {
             return self.random.within(1, u64::from(MAX_VIEW)) as View;
         }
+        if self.letters >= MAX_LETTERS && self.fast_call(view + 1).is_none() {
+            // Only votes can carry the run on.
+            return self.view_after_votes().unwrap_or(view + 1);
+        }
         if !self.random.percent(self.profile.skip) {
             return view + 1;
         }
@@ -531,6 +546,16 @@ impl Stream {
             _ => view + self.random.within(2, 4) as View,
         }
         .min(MAX_VIEW)
+    }
+
+    fn view_after_votes(&mut self) -> Option<View> {
+        let book = self.book()?;
+        let views: Vec<View> = self
+            .held(book)
+            .filter(|&block| u64::from(book[block].voters.len()) > 2 * self.faults)
+            .map(|block| book[block].view + 1)
+            .collect();
+        self.random.pick(&views)
     }
 
     /// Makes a fast block where votes allow it, else a slow one, after letters if need be.
@@ -549,7 +574,20 @@ impl Stream {
                 }
             }
         };
+        if let Call::Slow(proposal) = call {
+            self.try_other_parent(proposal);
+        }
         self.send(call);
+    }
+
+    /// Now and then, the same slow block on another reported block. Most are outranked.
+    fn try_other_parent(&mut self, mut proposal: Proposal) -> Option<u32> {
+        if !self.random.percent(self.profile.other) {
+            return None;
+        }
+        let reported: Vec<BlockId> = self.book()?.reports(proposal.view).blocks().collect();
+        proposal.parent = self.random.pick(&reported)?.number();
+        self.send(Call::Slow(proposal))
     }
 
     fn fast_call(&mut self, view: View) -> Option<Call> {
@@ -595,8 +633,9 @@ impl Stream {
 
     /// Kept seats expire to the view, and open ones write letters for it.
     fn leave_for(&mut self, view: View) {
+        let left_out = if self.letters >= MAX_LETTERS { 90 } else { 5 };
         for seat in self.shuffled_seats() {
-            if self.random.percent(5) {
+            if self.random.percent(left_out) {
                 continue;
             }
             match self.kept_view(seat) {
