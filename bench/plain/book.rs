@@ -36,7 +36,10 @@ pub struct Reports {
 
 impl Reports {
     fn none() -> Reports {
-        Reports { seats: SeatSet::default(), named: [BlockId::GENESIS; MAX_SEATS] }
+        Reports {
+            seats: SeatSet::default(),
+            named: [BlockId::GENESIS; MAX_SEATS],
+        }
     }
 
     fn set(&mut self, seat: Seat, block: BlockId) {
@@ -135,7 +138,13 @@ impl Book {
     pub fn new(rule: CountRule, rotation: RoundRobin, open: SeatSet) -> Result<Book, Refusal> {
         let mut blocks = reserve(MAX_BLOCKS)?;
         blocks.push(genesis(rule));
-        Ok(Book { rule, rotation, open, blocks, letters: reserve(MAX_LETTERS)? })
+        Ok(Book {
+            rule,
+            rotation,
+            open,
+            blocks,
+            letters: reserve(MAX_LETTERS)?,
+        })
     }
 
     pub fn find(&self, number: u32) -> Result<BlockId, Refusal> {
@@ -152,7 +161,9 @@ impl Book {
 
     pub fn stands_on(&self, upper: BlockId, lower: BlockId) -> bool {
         // Parents have smaller numbers.
-        self.chain(upper).take_while(|&block| block >= lower).any(|block| block == lower)
+        self.chain(upper)
+            .take_while(|&block| block >= lower)
+            .any(|block| block == lower)
     }
 
     pub fn conflict(&self, a: BlockId, b: BlockId) -> bool {
@@ -160,7 +171,9 @@ impl Book {
     }
 
     pub fn rank(&self, block: BlockId) -> Rank {
-        let Block { view, certificate, .. } = self[block];
+        let Block {
+            view, certificate, ..
+        } = self[block];
         Rank(view, self[certificate].view)
     }
 
@@ -186,7 +199,10 @@ impl Book {
 
     pub fn slow(&mut self, proposal: &Proposal) -> Result<BlockId, Refusal> {
         let parent = self.admit(proposal)?;
-        let reports = self.reports(proposal.view).of(proposal.heard).ok_or(Refusal::NotBacked)?;
+        let reports = self
+            .reports(proposal.view)
+            .of(proposal.heard)
+            .ok_or(Refusal::NotBacked)?;
         if !self.is_highest(parent, &reports) {
             return Err(Refusal::BadParent);
         }
@@ -240,18 +256,16 @@ impl Book {
 
     fn slow_certificate(&self, parent: BlockId, reports: &Reports) -> BlockId {
         let inherited = self[parent].certificate;
-        match self.named_by_quorum(reports) {
-            Some(named)
-                if self.stands_on(parent, named) && self[named].view > self[inherited].view =>
-            {
-                named
-            }
-            _ => inherited,
-        }
+        self.named_by_quorum(reports)
+            .filter(|&named| self[named].view > self[inherited].view)
+            .filter(|&named| self.stands_on(parent, named))
+            .unwrap_or(inherited)
     }
 
     fn named_by_quorum(&self, reports: &Reports) -> Option<BlockId> {
-        reports.blocks().find(|&block| self.rule.is_quorum(reports.seats_naming(block)))
+        reports
+            .blocks()
+            .find(|&block| self.rule.is_quorum(reports.seats_naming(block)))
     }
 
     fn enter(
@@ -291,15 +305,21 @@ impl Book {
         self[first].view == self[second].view + 1 || !self.clash(first, second)
     }
 
-    /// Whether a slow block of the first's chain, above the second, has a report that speaks against the second.
+    /// Whether a slow block of the first's chain, above the second, speaks against the second.
     fn clash(&self, first: BlockId, second: BlockId) -> bool {
         self.chain(first)
             .take_while(|&block| self[block].view > self[second].view)
             .any(|block| self.speaks_against(block, second))
     }
 
+    /// Whether a report of the parent's view, other than the parent, conflicts with the second.
     fn speaks_against(&self, block: BlockId, second: BlockId) -> bool {
-        let Block { parent: Some(parent), kind: Kind::Slow(reports), .. } = &self[block] else {
+        let Block {
+            parent: Some(parent),
+            kind: Kind::Slow(reports),
+            ..
+        } = &self[block]
+        else {
             return false;
         };
         reports.blocks().any(|report| {
@@ -327,6 +347,8 @@ fn genesis(rule: CountRule) -> Block {
 
 fn reserve<T>(room: usize) -> Result<Vec<T>, Refusal> {
     let mut things = Vec::new();
-    things.try_reserve_exact(room).map_err(|_| Refusal::WantOfMemory)?;
+    things
+        .try_reserve_exact(room)
+        .map_err(|_| Refusal::WantOfMemory)?;
     Ok(things)
 }

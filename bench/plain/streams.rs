@@ -57,7 +57,9 @@ impl Random {
     }
 
     fn pick<T: Copy>(&mut self, things: &[T]) -> Option<T> {
-        things.get(self.below(things.len() as u64) as usize).copied()
+        things
+            .get(self.below(things.len() as u64) as usize)
+            .copied()
     }
 
     fn shuffle<T>(&mut self, things: &mut [T]) {
@@ -86,6 +88,8 @@ struct Profile {
     fail: u64,
     /// A seat is not shown a block, or an open one does not vote for it.
     hide: u64,
+    /// A view has a chance of its own for that.
+    swing: u64,
     /// An open leader makes another block of its view.
     twins: u64,
     /// A call is sent in a bent form first.
@@ -106,6 +110,7 @@ const STEADY: Profile = Profile {
     records: (200, 2400),
     fail: 10,
     hide: 5,
+    swing: 5,
     twins: 5,
     bend: 5,
     skip: 3,
@@ -121,7 +126,7 @@ impl Profile {
                 faults: (1, 2),
                 opening: [Opening::Tolerated, Opening::Most][random.below(2) as usize],
                 fail: 92,
-                hide: 75,
+                hide: random.pick(&[75, 88, 97]).unwrap_or(75),
                 twins: 15,
                 bend: 2,
                 ..STEADY
@@ -131,17 +136,19 @@ impl Profile {
                 records: (200, 1200),
                 fail: 45,
                 hide: 25,
+                swing: 60,
                 twins: 70,
                 odd: 6,
                 other: 40,
                 ..STEADY
             },
             "forks" => Profile {
-                faults: (1, random.pick(&[2, 4, 21]).unwrap_or(2)),
+                faults: (1, random.pick(&[2, 4, 7]).unwrap_or(2)),
                 opening: Opening::Most,
                 records: (300, 2000),
                 fail: random.pick(&[15, 35, 60]).unwrap_or(35),
                 hide: 15,
+                swing: 60,
                 twins: random.pick(&[60, 75]).unwrap_or(60),
                 bend: 1,
                 odd: 14,
@@ -185,15 +192,26 @@ impl Profile {
                 damage: random.within(1, 30),
                 ..STEADY
             },
-            "brief" => Profile { faults: (0, 25), opening: Opening::Any, records: (0, 12), ..STEADY },
+            "brief" => Profile {
+                faults: (0, 25),
+                opening: Opening::Any,
+                records: (0, 12),
+                ..STEADY
+            },
             "mixed" => Profile {
                 faults: (0, random.pick(&[1, 2, 5, 21]).unwrap_or(1)),
                 opening: random
-                    .pick(&[Opening::Nobody, Opening::Tolerated, Opening::Most, Opening::Any])
+                    .pick(&[
+                        Opening::Nobody,
+                        Opening::Tolerated,
+                        Opening::Most,
+                        Opening::Any,
+                    ])
                     .unwrap_or(Opening::Any),
                 records: (0, random.pick(&[100, 600, 1500, 3000]).unwrap_or(600)),
                 fail: random.below(100),
                 hide: random.below(60),
+                swing: random.below(60),
                 twins: random.below(80),
                 bend: random.below(40),
                 skip: random.below(20),
@@ -213,6 +231,10 @@ struct Stream {
     limit: usize,
     faults: u64,
     open: SeatSet,
+    /// Kept seats that are shown nothing until the end.
+    silent: SeatSet,
+    /// The chance of the view at hand that a seat is not shown a block.
+    hide: u64,
     blocks: u32,
     letters: usize,
     bytes: Vec<u8>,
@@ -232,6 +254,8 @@ impl Stream {
             limit,
             faults,
             open: SeatSet::default(),
+            silent: SeatSet::default(),
+            hide: 0,
             blocks: 1,
             letters: 0,
             bytes: Vec::new(),
@@ -252,6 +276,7 @@ impl Stream {
             self.round(view);
             view = self.next_view(view);
         }
+        self.show_silent_seats();
         if matches!(kind, "damaged" | "brief" | "full") && self.random.percent(50) {
             let left = self.random.within(1, RECORD_BYTES as u64 - 1);
             let tail = self.any_bytes();
@@ -271,6 +296,9 @@ impl Stream {
             return;
         }
         self.open = self.open_set();
+        if matches!(self.profile.opening, Opening::Most) && self.random.percent(60) {
+            self.silent = SeatSet(SeatSet::first(self.seats()).0 & !self.open.0);
+        }
         let mut record = [0; RECORD_BYTES];
         record[0] = b'O';
         record[1] = self.faults as u8;
@@ -346,14 +374,22 @@ impl Stream {
         }
         match call {
             Call::Fast(proposal) | Call::Slow(proposal) => {
-                record[0] = if matches!(call, Call::Fast(_)) { b'F' } else { b'S' };
+                record[0] = if matches!(call, Call::Fast(_)) {
+                    b'F'
+                } else {
+                    b'S'
+                };
                 record[4..8].copy_from_slice(&proposal.view.to_le_bytes());
                 record[8..12].copy_from_slice(&proposal.parent.to_le_bytes());
                 record[16..24].copy_from_slice(&proposal.payload.to_le_bytes());
                 record[24..].copy_from_slice(&proposal.heard.0.to_le_bytes());
             }
             Call::Show { seat, block } | Call::Vote { seat, block } => {
-                record[0] = if matches!(call, Call::Show { .. }) { b'H' } else { b'V' };
+                record[0] = if matches!(call, Call::Show { .. }) {
+                    b'H'
+                } else {
+                    b'V'
+                };
                 record[1] = seat;
                 record[8..12].copy_from_slice(&block.to_le_bytes());
             }
@@ -398,11 +434,19 @@ impl Stream {
         match call {
             Call::Fast(proposal) => {
                 let bent = self.bend_proposal(proposal);
-                if self.random.percent(15) { Call::Slow(bent) } else { Call::Fast(bent) }
+                if self.random.percent(15) {
+                    Call::Slow(bent)
+                } else {
+                    Call::Fast(bent)
+                }
             }
             Call::Slow(proposal) => {
                 let bent = self.bend_proposal(proposal);
-                if self.random.percent(15) { Call::Fast(bent) } else { Call::Slow(bent) }
+                if self.random.percent(15) {
+                    Call::Fast(bent)
+                } else {
+                    Call::Slow(bent)
+                }
             }
             Call::Show { seat, block } | Call::Vote { seat, block } => {
                 let (seat, block) = match self.random.below(3) {
@@ -417,14 +461,36 @@ impl Stream {
                 }
             }
             Call::Expire { seat, view } => match self.random.below(3) {
-                0 => Call::Expire { seat: self.loose_seat(), view },
-                1 => Call::Expire { seat, view: self.loose_view(view) },
-                _ => Call::Letter { seat, view, block: self.loose_block() },
+                0 => Call::Expire {
+                    seat: self.loose_seat(),
+                    view,
+                },
+                1 => Call::Expire {
+                    seat,
+                    view: self.loose_view(view),
+                },
+                _ => Call::Letter {
+                    seat,
+                    view,
+                    block: self.loose_block(),
+                },
             },
             Call::Letter { seat, view, block } => match self.random.below(4) {
-                0 => Call::Letter { seat: self.loose_seat(), view, block },
-                1 => Call::Letter { seat, view: self.loose_view(view), block },
-                2 => Call::Letter { seat, view, block: self.loose_block() },
+                0 => Call::Letter {
+                    seat: self.loose_seat(),
+                    view,
+                    block,
+                },
+                1 => Call::Letter {
+                    seat,
+                    view: self.loose_view(view),
+                    block,
+                },
+                2 => Call::Letter {
+                    seat,
+                    view,
+                    block: self.loose_block(),
+                },
                 _ => Call::Expire { seat, view },
             },
         }
@@ -455,7 +521,12 @@ impl Stream {
         let near = self.random.below(2 * u64::from(self.blocks) + 2) as View;
         let view = self.loose_view(near);
         let heard = self.loose_set();
-        let proposal = Proposal { view, parent: block, payload: self.random.next(), heard };
+        let proposal = Proposal {
+            view,
+            parent: block,
+            payload: self.random.next(),
+            heard,
+        };
         match self.random.below(6) {
             0 => Call::Fast(proposal),
             1 => Call::Slow(proposal),
@@ -510,6 +581,10 @@ impl Stream {
 
     /// What happens in one view.
     fn round(&mut self, view: View) {
+        self.hide = match self.random.percent(self.profile.swing) {
+            true => self.random.pick(&[0, 0, 40, 85]).unwrap_or(0),
+            false => self.profile.hide,
+        };
         if self.random.percent(self.profile.fail) {
             self.leave_for(view);
         }
@@ -563,7 +638,13 @@ impl Stream {
         let fast = self.fast_call(view);
         let slow = self.slow_call(view);
         let call = match (fast, slow) {
-            (Some(fast), Some(slow)) => if self.random.percent(30) { fast } else { slow },
+            (Some(fast), Some(slow)) => {
+                if self.random.percent(30) {
+                    fast
+                } else {
+                    slow
+                }
+            }
             (Some(fast), None) => fast,
             (None, Some(slow)) => slow,
             (None, None) => {
@@ -612,8 +693,10 @@ impl Stream {
         let reports = reports.of(proposal.heard)?;
         let book = self.book()?;
         let highest = reports.blocks().map(|block| book.rank(block)).max()?;
-        let parents: Vec<BlockId> =
-            reports.blocks().filter(|&block| book.rank(block) == highest).collect();
+        let parents: Vec<BlockId> = reports
+            .blocks()
+            .filter(|&block| book.rank(block) == highest)
+            .collect();
         proposal.parent = self.random.pick(&parents)?.number();
         Some(Call::Slow(proposal))
     }
@@ -627,15 +710,24 @@ impl Stream {
             _ => u64::from(seats.len()),
         };
         let heard = self.some_of(seats, count);
-        let payload = if self.random.percent(50) { 0 } else { self.random.next() };
-        Proposal { view, parent: parent.number(), payload, heard }
+        let payload = if self.random.percent(50) {
+            0
+        } else {
+            self.random.next()
+        };
+        Proposal {
+            view,
+            parent: parent.number(),
+            payload,
+            heard,
+        }
     }
 
     /// Kept seats expire to the view, and open ones write letters for it.
     fn leave_for(&mut self, view: View) {
         let left_out = if self.letters >= MAX_LETTERS { 90 } else { 5 };
         for seat in self.shuffled_seats() {
-            if self.random.percent(left_out) {
+            if self.random.percent(left_out) || self.silent.contains(seat) {
                 continue;
             }
             match self.kept_view(seat) {
@@ -660,33 +752,56 @@ impl Stream {
 
     fn open_letter(&mut self, seat: Seat, view: View) -> Option<u32> {
         let book = self.book()?;
-        let earlier: Vec<BlockId> =
-            self.held(book).filter(|&block| book[block].view < view).collect();
+        let earlier: Vec<BlockId> = self
+            .held(book)
+            .filter(|&block| book[block].view < view)
+            .collect();
         let latest = earlier.iter().map(|&block| book[block].view).max()?;
-        let tops: Vec<BlockId> =
-            earlier.iter().copied().filter(|&block| book[block].view == latest).collect();
-        let hide = self.profile.hide;
+        let tops: Vec<BlockId> = earlier
+            .iter()
+            .copied()
+            .filter(|&block| book[block].view == latest)
+            .collect();
+        let hide = self.hide;
         let block = match self.random.below(20) {
             0 | 1 => self.random.pick(&earlier)?,
-            2..=5 => self.random.pick(&earlier[earlier.len().saturating_sub(6)..])?,
-            6..=9 if hide > 50 => self.random.pick(&earlier)?,
+            2..=5 => self
+                .random
+                .pick(&earlier[earlier.len().saturating_sub(6)..])?,
+            6..=14 if hide > 50 => self.random.pick(&earlier)?,
             _ => self.random.pick(&tops)?,
         };
-        self.send(Call::Letter { seat, view, block: block.number() })
+        self.send(Call::Letter {
+            seat,
+            view,
+            block: block.number(),
+        })
     }
 
     /// Shows a block to kept seats, one at least, and lets open ones vote for it.
     fn spread(&mut self, block: u32) {
         let mut shown = false;
         for seat in self.shuffled_seats() {
-            let hidden = self.random.percent(self.profile.hide);
+            let hidden = self.random.percent(self.hide) || self.silent.contains(seat);
             if self.open.contains(seat) {
                 if !hidden {
                     self.send(Call::Vote { seat, block });
                 }
-            } else if !hidden || !shown {
+            } else if !hidden || !shown && !self.silent.contains(seat) {
                 shown = true;
                 self.send(Call::Show { seat, block });
+            }
+        }
+    }
+
+    /// Shows each silent seat the blocks in an order of its own.
+    fn show_silent_seats(&mut self) {
+        for seat in self.silent.iter() {
+            let mut blocks: Vec<u32> = (0..self.blocks).collect();
+            self.random.shuffle(&mut blocks);
+            self.limit = MAX_RECORDS.min(self.limit + blocks.len());
+            for block in blocks {
+                self.send_plain(Call::Show { seat, block });
             }
         }
     }
@@ -701,8 +816,15 @@ impl Stream {
         };
         let block = self.blocks - 1 - self.random.below(back.min(u64::from(self.blocks))) as u32;
         let call = match self.random.below(10) {
-            0 => Call::Letter { seat, view: view + self.random.below(3) as View, block },
-            1 => Call::Expire { seat, view: view + self.random.below(3) as View },
+            0 => Call::Letter {
+                seat,
+                view: view + self.random.below(3) as View,
+                block,
+            },
+            1 => Call::Expire {
+                seat,
+                view: view + self.random.below(3) as View,
+            },
             2 => Call::Vote { seat, block },
             _ if self.open.contains(seat) && self.random.percent(40) => Call::Vote { seat, block },
             _ => match self.kept_seat() {
@@ -736,7 +858,7 @@ impl Stream {
     }
 
     fn kept_seat(&mut self) -> Option<Seat> {
-        let kept = SeatSet(SeatSet::first(self.seats()).0 & !self.open.0);
+        let kept = SeatSet(SeatSet::first(self.seats()).0 & !self.open.0 & !self.silent.0);
         let seats: Vec<Seat> = kept.iter().collect();
         self.random.pick(&seats)
     }
@@ -779,7 +901,10 @@ fn run(arguments: &[String]) -> Option<io::Result<()>> {
             let count: u64 = count.parse().ok()?;
             Some((seed..seed + count).try_for_each(|seed| {
                 let kind = kind_of(seed, kind).unwrap_or("mixed");
-                std::fs::write(Path::new(folder).join(format!("{seed}.{kind}")), stream(seed, kind))
+                std::fs::write(
+                    Path::new(folder).join(format!("{seed}.{kind}")),
+                    stream(seed, kind),
+                )
             }))
         }
         _ => None,
@@ -795,7 +920,10 @@ fn main() -> ExitCode {
             ExitCode::FAILURE
         }
         None => {
-            eprintln!("usage: streams SEED KIND [COUNT DIR]\nkinds: all {}", KINDS.join(" "));
+            eprintln!(
+                "usage: streams SEED KIND [COUNT DIR]\nkinds: all {}",
+                KINDS.join(" ")
+            );
             ExitCode::FAILURE
         }
     }
