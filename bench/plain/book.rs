@@ -36,10 +36,7 @@ pub struct Reports {
 
 impl Reports {
     fn none() -> Reports {
-        Reports {
-            seats: SeatSet::default(),
-            named: [BlockId::GENESIS; MAX_SEATS],
-        }
+        Reports { seats: SeatSet::default(), named: [BlockId::GENESIS; MAX_SEATS] }
     }
 
     fn set(&mut self, seat: Seat, block: BlockId) {
@@ -138,13 +135,7 @@ impl Book {
     pub fn new(rule: CountRule, rotation: RoundRobin, open: SeatSet) -> Result<Book, Refusal> {
         let mut blocks = reserve(MAX_BLOCKS)?;
         blocks.push(genesis(rule));
-        Ok(Book {
-            rule,
-            rotation,
-            open,
-            blocks,
-            letters: reserve(MAX_LETTERS)?,
-        })
+        Ok(Book { rule, rotation, open, blocks, letters: reserve(MAX_LETTERS)? })
     }
 
     pub fn find(&self, number: u32) -> Result<BlockId, Refusal> {
@@ -161,9 +152,7 @@ impl Book {
 
     pub fn stands_on(&self, upper: BlockId, lower: BlockId) -> bool {
         // Parents have smaller numbers.
-        self.chain(upper)
-            .take_while(|&block| block >= lower)
-            .any(|block| block == lower)
+        self.chain(upper).take_while(|&block| block >= lower).any(|block| block == lower)
     }
 
     pub fn conflict(&self, a: BlockId, b: BlockId) -> bool {
@@ -171,9 +160,7 @@ impl Book {
     }
 
     pub fn rank(&self, block: BlockId) -> Rank {
-        let Block {
-            view, certificate, ..
-        } = self[block];
+        let Block { view, certificate, .. } = self[block];
         Rank(view, self[certificate].view)
     }
 
@@ -199,10 +186,7 @@ impl Book {
 
     pub fn slow(&mut self, proposal: &Proposal) -> Result<BlockId, Refusal> {
         let parent = self.admit(proposal)?;
-        let reports = self
-            .reports(proposal.view)
-            .of(proposal.heard)
-            .ok_or(Refusal::NotBacked)?;
+        let reports = self.reports(proposal.view).of(proposal.heard).ok_or(Refusal::NotBacked)?;
         if !self.is_highest(parent, &reports) {
             return Err(Refusal::BadParent);
         }
@@ -263,18 +247,10 @@ impl Book {
     }
 
     fn named_by_quorum(&self, reports: &Reports) -> Option<BlockId> {
-        reports
-            .blocks()
-            .find(|&block| self.rule.is_quorum(reports.seats_naming(block)))
+        reports.blocks().find(|&block| self.rule.is_quorum(reports.seats_naming(block)))
     }
 
-    fn enter(
-        &mut self,
-        proposal: &Proposal,
-        parent: BlockId,
-        kind: Kind,
-        certificate: BlockId,
-    ) -> BlockId {
+    fn enter(&mut self, proposal: &Proposal, parent: BlockId, kind: Kind, certificate: BlockId) -> BlockId {
         let block = BlockId(self.blocks.len() as u16);
         self.blocks.push(Block {
             view: proposal.view,
@@ -314,19 +290,12 @@ impl Book {
 
     /// Whether a report of the parent's view, other than the parent, conflicts with the second.
     fn speaks_against(&self, block: BlockId, second: BlockId) -> bool {
-        let Block {
-            parent: Some(parent),
-            kind: Kind::Slow(reports),
-            ..
-        } = &self[block]
-        else {
+        let Block { parent: Some(parent), kind: Kind::Slow(reports), .. } = &self[block] else {
             return false;
         };
-        reports.blocks().any(|report| {
-            report != *parent
-                && self[report].view == self[*parent].view
-                && self.conflict(report, second)
-        })
+        reports
+            .blocks()
+            .any(|report| report != *parent && self[report].view == self[*parent].view && self.conflict(report, second))
     }
 }
 
@@ -347,8 +316,6 @@ fn genesis(rule: CountRule) -> Block {
 
 fn reserve<T>(room: usize) -> Result<Vec<T>, Refusal> {
     let mut things = Vec::new();
-    things
-        .try_reserve_exact(room)
-        .map_err(|_| Refusal::WantOfMemory)?;
+    things.try_reserve_exact(room).map_err(|_| Refusal::WantOfMemory)?;
     Ok(things)
 }

@@ -35,19 +35,9 @@ impl Cluster {
         if !open.is_subset(rule.all()) {
             return Err(Refusal::SetOutOfRange);
         }
-        let fresh = KeptSeat {
-            view: 0,
-            last_vote: BlockId::GENESIS,
-            tip: BlockId::GENESIS,
-        };
-        let seats = rule
-            .all()
-            .iter()
-            .map(|seat| (!open.contains(seat)).then_some(fresh));
-        Ok(Cluster {
-            book: Book::new(rule, rotation, open)?,
-            seats: seats.collect(),
-        })
+        let fresh = KeptSeat { view: 0, last_vote: BlockId::GENESIS, tip: BlockId::GENESIS };
+        let seats = rule.all().iter().map(|seat| (!open.contains(seat)).then_some(fresh));
+        Ok(Cluster { book: Book::new(rule, rotation, open)?, seats: seats.collect() })
     }
 
     pub fn seats(&self) -> usize {
@@ -67,10 +57,7 @@ impl Cluster {
 
     /// The seat, or nothing if it is open.
     pub fn seat(&self, seat: Seat) -> Result<Option<KeptSeat>, Refusal> {
-        self.seats
-            .get(usize::from(seat))
-            .copied()
-            .ok_or(Refusal::NoSuchSeat)
+        self.seats.get(usize::from(seat)).copied().ok_or(Refusal::NoSuchSeat)
     }
 
     /// Whether the seat votes for the block.
@@ -109,11 +96,7 @@ impl Cluster {
         if view <= kept.view {
             return Err(Refusal::ViewNotAbove);
         }
-        self.book.add_letter(Letter {
-            seat,
-            view,
-            block: kept.last_vote,
-        })?;
+        self.book.add_letter(Letter { seat, view, block: kept.last_vote })?;
         kept.view = view;
         self.seats[usize::from(seat)] = Some(kept);
         Ok(kept.last_vote)

@@ -24,18 +24,10 @@ impl Record {
         let block = low_first(&bytes[8..12]) as u32;
         let payload = low_first(&bytes[16..24]);
         let set = SeatSet(low_first(&bytes[24..32]));
-        let proposal = Proposal {
-            view,
-            parent: block,
-            payload,
-            heard: set,
-        };
+        let proposal = Proposal { view, parent: block, payload, heard: set };
 
         let record = match bytes[0] {
-            b'O' => Record::Open {
-                faults: seat,
-                open: set,
-            },
+            b'O' => Record::Open { faults: seat, open: set },
             b'F' => Record::Call(Call::Fast(proposal)),
             b'S' => Record::Call(Call::Slow(proposal)),
             b'H' => Record::Call(Call::Show { seat, block }),
@@ -53,10 +45,7 @@ impl Record {
 
 /// A number with its lowest byte first.
 fn low_first(bytes: &[u8]) -> u64 {
-    bytes
-        .iter()
-        .rev()
-        .fold(0, |number, &byte| number << 8 | u64::from(byte))
+    bytes.iter().rev().fold(0, |number, &byte| number << 8 | u64::from(byte))
 }
 
 /// The first record opens the cluster; later ones call it.

@@ -29,10 +29,7 @@ fn rehearse(mut input: impl Read, mut output: impl Write) -> io::Result<()> {
     let mut record = Vec::with_capacity(RECORD_BYTES);
     for number in 0..MAX_RECORDS {
         record.clear();
-        input
-            .by_ref()
-            .take(RECORD_BYTES as u64)
-            .read_to_end(&mut record)?;
+        input.by_ref().take(RECORD_BYTES as u64).read_to_end(&mut record)?;
         if record.is_empty() {
             break;
         }

@@ -20,9 +20,8 @@ use cluster::{Call, Cluster};
 use record::{Rehearsal, MAX_RECORDS, RECORD_BYTES};
 use seats::{Seat, SeatSet, View, MAX_FAULTS, MAX_VIEW};
 
-const KINDS: [&str; 10] = [
-    "mixed", "steady", "hollow", "twins", "forks", "full", "wide", "wild", "damaged", "brief",
-];
+const KINDS: [&str; 11] =
+    ["mixed", "steady", "hollow", "twins", "forks", "branches", "full", "wide", "wild", "damaged", "brief"];
 
 /// A xorshift generator.
 struct Random(u64);
@@ -57,9 +56,7 @@ impl Random {
     }
 
     fn pick<T: Copy>(&mut self, things: &[T]) -> Option<T> {
-        things
-            .get(self.below(things.len() as u64) as usize)
-            .copied()
+        things.get(self.below(things.len() as u64) as usize).copied()
     }
 
     fn shuffle<T>(&mut self, things: &mut [T]) {
@@ -98,6 +95,8 @@ struct Profile {
     skip: u64,
     /// Odd shows, votes and letters after each view, at most.
     odd: u64,
+    /// Branches that grow side by side, or 0.
+    branches: u64,
     /// A slow block is tried on another parent first.
     other: u64,
     /// A record is damaged.
@@ -115,6 +114,7 @@ const STEADY: Profile = Profile {
     bend: 5,
     skip: 3,
     odd: 2,
+    branches: 0,
     other: 15,
     damage: 0,
 };
@@ -155,6 +155,15 @@ impl Profile {
                 other: 40,
                 ..STEADY
             },
+            "branches" => Profile {
+                faults: (1, 3),
+                opening: Opening::Most,
+                records: (400, 2500),
+                hide: 8,
+                bend: 1,
+                branches: random.within(2, 4),
+                ..STEADY
+            },
             "full" => Profile {
                 faults: (0, 2),
                 opening: [Opening::Tolerated, Opening::Any][random.below(2) as usize],
@@ -192,21 +201,11 @@ impl Profile {
                 damage: random.within(1, 30),
                 ..STEADY
             },
-            "brief" => Profile {
-                faults: (0, 25),
-                opening: Opening::Any,
-                records: (0, 12),
-                ..STEADY
-            },
+            "brief" => Profile { faults: (0, 25), opening: Opening::Any, records: (0, 12), ..STEADY },
             "mixed" => Profile {
                 faults: (0, random.pick(&[1, 2, 5, 21]).unwrap_or(1)),
                 opening: random
-                    .pick(&[
-                        Opening::Nobody,
-                        Opening::Tolerated,
-                        Opening::Most,
-                        Opening::Any,
-                    ])
+                    .pick(&[Opening::Nobody, Opening::Tolerated, Opening::Most, Opening::Any])
                     .unwrap_or(Opening::Any),
                 records: (0, random.pick(&[100, 600, 1500, 3000]).unwrap_or(600)),
                 fail: random.below(100),
@@ -216,6 +215,7 @@ impl Profile {
                 bend: random.below(40),
                 skip: random.below(20),
                 odd: random.below(12),
+                branches: 0,
                 other: random.below(50),
                 damage: random.pick(&[0, 0, 0, 2]).unwrap_or(0),
             },
@@ -237,6 +237,8 @@ struct Stream {
     hide: u64,
     blocks: u32,
     letters: usize,
+    /// The newest block of each branch.
+    tips: Vec<u32>,
     bytes: Vec<u8>,
     rehearsal: Rehearsal,
 }
@@ -258,6 +260,7 @@ impl Stream {
             hide: 0,
             blocks: 1,
             letters: 0,
+            tips: vec![0; profile.branches as usize],
             bytes: Vec::new(),
             rehearsal: Rehearsal::default(),
         }
@@ -296,7 +299,8 @@ impl Stream {
             return;
         }
         self.open = self.open_set();
-        if matches!(self.profile.opening, Opening::Most) && self.random.percent(60) {
+        // Where the open seats decide alone, the kept ones may stay silent.
+        if u64::from(self.open.len()) > 2 * self.faults && self.random.percent(60) {
             self.silent = SeatSet(SeatSet::first(self.seats()).0 & !self.open.0);
         }
         let mut record = [0; RECORD_BYTES];
@@ -374,22 +378,14 @@ impl Stream {
         }
         match call {
             Call::Fast(proposal) | Call::Slow(proposal) => {
-                record[0] = if matches!(call, Call::Fast(_)) {
-                    b'F'
-                } else {
-                    b'S'
-                };
+                record[0] = if matches!(call, Call::Fast(_)) { b'F' } else { b'S' };
                 record[4..8].copy_from_slice(&proposal.view.to_le_bytes());
                 record[8..12].copy_from_slice(&proposal.parent.to_le_bytes());
                 record[16..24].copy_from_slice(&proposal.payload.to_le_bytes());
                 record[24..].copy_from_slice(&proposal.heard.0.to_le_bytes());
             }
             Call::Show { seat, block } | Call::Vote { seat, block } => {
-                record[0] = if matches!(call, Call::Show { .. }) {
-                    b'H'
-                } else {
-                    b'V'
-                };
+                record[0] = if matches!(call, Call::Show { .. }) { b'H' } else { b'V' };
                 record[1] = seat;
                 record[8..12].copy_from_slice(&block.to_le_bytes());
             }
@@ -461,36 +457,14 @@ impl Stream {
                 }
             }
             Call::Expire { seat, view } => match self.random.below(3) {
-                0 => Call::Expire {
-                    seat: self.loose_seat(),
-                    view,
-                },
-                1 => Call::Expire {
-                    seat,
-                    view: self.loose_view(view),
-                },
-                _ => Call::Letter {
-                    seat,
-                    view,
-                    block: self.loose_block(),
-                },
+                0 => Call::Expire { seat: self.loose_seat(), view },
+                1 => Call::Expire { seat, view: self.loose_view(view) },
+                _ => Call::Letter { seat, view, block: self.loose_block() },
             },
             Call::Letter { seat, view, block } => match self.random.below(4) {
-                0 => Call::Letter {
-                    seat: self.loose_seat(),
-                    view,
-                    block,
-                },
-                1 => Call::Letter {
-                    seat,
-                    view: self.loose_view(view),
-                    block,
-                },
-                2 => Call::Letter {
-                    seat,
-                    view,
-                    block: self.loose_block(),
-                },
+                0 => Call::Letter { seat: self.loose_seat(), view, block },
+                1 => Call::Letter { seat, view: self.loose_view(view), block },
+                2 => Call::Letter { seat, view, block: self.loose_block() },
                 _ => Call::Expire { seat, view },
             },
         }
@@ -521,12 +495,7 @@ impl Stream {
         let near = self.random.below(2 * u64::from(self.blocks) + 2) as View;
         let view = self.loose_view(near);
         let heard = self.loose_set();
-        let proposal = Proposal {
-            view,
-            parent: block,
-            payload: self.random.next(),
-            heard,
-        };
+        let proposal = Proposal { view, parent: block, payload: self.random.next(), heard };
         match self.random.below(6) {
             0 => Call::Fast(proposal),
             1 => Call::Slow(proposal),
@@ -585,16 +554,11 @@ impl Stream {
             true => self.random.pick(&[0, 0, 40, 85]).unwrap_or(0),
             false => self.profile.hide,
         };
-        if self.random.percent(self.profile.fail) {
-            self.leave_for(view);
-        }
         let first_new = self.blocks;
-        self.make_block(view);
-        if self.open.contains((view as usize % self.seats()) as Seat) {
-            while self.random.percent(self.profile.twins) && !self.is_long_enough() {
-                self.change_letters(view);
-                self.make_block(view);
-            }
+        if self.tips.is_empty() || self.letters >= MAX_LETTERS {
+            self.make_blocks(view);
+        } else {
+            self.grow_branches(view);
         }
         for block in first_new..self.blocks {
             self.spread(block);
@@ -602,6 +566,69 @@ impl Stream {
         for _ in 0..self.random.below(self.profile.odd + 1) {
             self.odd_call(view);
         }
+    }
+
+    fn make_blocks(&mut self, view: View) {
+        if self.random.percent(self.profile.fail) {
+            self.leave_for(view);
+        }
+        self.make_block(view);
+        while self.is_open_led(view) && self.random.percent(self.profile.twins) && !self.is_long_enough() {
+            self.change_letters(view);
+            self.make_block(view);
+        }
+    }
+
+    /// Each branch gets a block, where the leader is open; else one of them does.
+    fn grow_branches(&mut self, view: View) {
+        let mut order: Vec<usize> = (0..self.tips.len()).collect();
+        self.random.shuffle(&mut order);
+        if !self.is_open_led(view) {
+            order.truncate(1);
+        }
+        for branch in order {
+            match self.random.below(100) {
+                0..=14 => continue,
+                15..=22 => self.tips[branch] = self.tips[self.random.below(self.tips.len() as u64) as usize],
+                _ => {}
+            }
+            if let Some(block) = self.grow(view, self.tips[branch]) {
+                self.tips[branch] = block;
+            }
+        }
+    }
+
+    fn grow(&mut self, view: View, tip: u32) -> Option<u32> {
+        let book = self.book()?;
+        let tip = book.find(tip).ok()?;
+        let (tip_view, voters) = (book[tip].view, book[tip].voters);
+        if tip_view + 1 == view && u64::from(voters.len()) > 2 * self.faults && self.random.percent(60) {
+            let proposal = self.proposal(view, tip, voters);
+            return self.send(Call::Fast(proposal));
+        }
+        self.letters_on(view, tip);
+        let call = self.slow_call(view)?;
+        self.send(call)
+    }
+
+    /// Open seats write letters that name the tip, or blocks that do not outrank it.
+    fn letters_on(&mut self, view: View, tip: BlockId) -> Option<()> {
+        let book = self.book()?;
+        let lower: Vec<BlockId> = self.held(book).filter(|&block| book.rank(block) <= book.rank(tip)).collect();
+        let rivals: Vec<BlockId> =
+            lower.iter().copied().filter(|&block| block != tip && book[block].view == book[tip].view).collect();
+        let share = self.random.pick(&[95, 90, 60, 30])?;
+        for seat in self.shuffled_seats() {
+            let block = match self.random.percent(share) {
+                true => tip,
+                false if rivals.is_empty() || self.random.percent(20) => self.random.pick(&lower)?,
+                false => self.random.pick(&rivals)?,
+            };
+            if self.open.contains(seat) {
+                self.send(Call::Letter { seat, view, block: block.number() });
+            }
+        }
+        Some(())
     }
 
     fn next_view(&mut self, view: View) -> View {
@@ -693,10 +720,7 @@ impl Stream {
         let reports = reports.of(proposal.heard)?;
         let book = self.book()?;
         let highest = reports.blocks().map(|block| book.rank(block)).max()?;
-        let parents: Vec<BlockId> = reports
-            .blocks()
-            .filter(|&block| book.rank(block) == highest)
-            .collect();
+        let parents: Vec<BlockId> = reports.blocks().filter(|&block| book.rank(block) == highest).collect();
         proposal.parent = self.random.pick(&parents)?.number();
         Some(Call::Slow(proposal))
     }
@@ -710,17 +734,8 @@ impl Stream {
             _ => u64::from(seats.len()),
         };
         let heard = self.some_of(seats, count);
-        let payload = if self.random.percent(50) {
-            0
-        } else {
-            self.random.next()
-        };
-        Proposal {
-            view,
-            parent: parent.number(),
-            payload,
-            heard,
-        }
+        let payload = if self.random.percent(50) { 0 } else { self.random.next() };
+        Proposal { view, parent: parent.number(), payload, heard }
     }
 
     /// Kept seats expire to the view, and open ones write letters for it.
@@ -752,30 +767,17 @@ impl Stream {
 
     fn open_letter(&mut self, seat: Seat, view: View) -> Option<u32> {
         let book = self.book()?;
-        let earlier: Vec<BlockId> = self
-            .held(book)
-            .filter(|&block| book[block].view < view)
-            .collect();
+        let earlier: Vec<BlockId> = self.held(book).filter(|&block| book[block].view < view).collect();
         let latest = earlier.iter().map(|&block| book[block].view).max()?;
-        let tops: Vec<BlockId> = earlier
-            .iter()
-            .copied()
-            .filter(|&block| book[block].view == latest)
-            .collect();
+        let tops: Vec<BlockId> = earlier.iter().copied().filter(|&block| book[block].view == latest).collect();
         let hide = self.hide;
         let block = match self.random.below(20) {
             0 | 1 => self.random.pick(&earlier)?,
-            2..=5 => self
-                .random
-                .pick(&earlier[earlier.len().saturating_sub(6)..])?,
+            2..=5 => self.random.pick(&earlier[earlier.len().saturating_sub(6)..])?,
             6..=14 if hide > 50 => self.random.pick(&earlier)?,
             _ => self.random.pick(&tops)?,
         };
-        self.send(Call::Letter {
-            seat,
-            view,
-            block: block.number(),
-        })
+        self.send(Call::Letter { seat, view, block: block.number() })
     }
 
     /// Shows a block to kept seats, one at least, and lets open ones vote for it.
@@ -816,15 +818,8 @@ impl Stream {
         };
         let block = self.blocks - 1 - self.random.below(back.min(u64::from(self.blocks))) as u32;
         let call = match self.random.below(10) {
-            0 => Call::Letter {
-                seat,
-                view: view + self.random.below(3) as View,
-                block,
-            },
-            1 => Call::Expire {
-                seat,
-                view: view + self.random.below(3) as View,
-            },
+            0 => Call::Letter { seat, view: view + self.random.below(3) as View, block },
+            1 => Call::Expire { seat, view: view + self.random.below(3) as View },
             2 => Call::Vote { seat, block },
             _ if self.open.contains(seat) && self.random.percent(40) => Call::Vote { seat, block },
             _ => match self.kept_seat() {
@@ -839,6 +834,10 @@ impl Stream {
 
     fn seats(&self) -> usize {
         (3 * self.faults.min(u64::from(MAX_FAULTS)) + 1) as usize
+    }
+
+    fn is_open_led(&self, view: View) -> bool {
+        self.open.contains((view as usize % self.seats()) as Seat)
     }
 
     fn cluster(&self) -> Option<&Cluster> {
@@ -901,10 +900,7 @@ fn run(arguments: &[String]) -> Option<io::Result<()>> {
             let count: u64 = count.parse().ok()?;
             Some((seed..seed + count).try_for_each(|seed| {
                 let kind = kind_of(seed, kind).unwrap_or("mixed");
-                std::fs::write(
-                    Path::new(folder).join(format!("{seed}.{kind}")),
-                    stream(seed, kind),
-                )
+                std::fs::write(Path::new(folder).join(format!("{seed}.{kind}")), stream(seed, kind))
             }))
         }
         _ => None,
@@ -920,10 +916,7 @@ fn main() -> ExitCode {
             ExitCode::FAILURE
         }
         None => {
-            eprintln!(
-                "usage: streams SEED KIND [COUNT DIR]\nkinds: all {}",
-                KINDS.join(" ")
-            );
+            eprintln!("usage: streams SEED KIND [COUNT DIR]\nkinds: all {}", KINDS.join(" "));
             ExitCode::FAILURE
         }
     }
