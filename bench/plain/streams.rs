@@ -55,6 +55,18 @@ impl Random {
         self.below(100) < chance
     }
 
+    fn either<T>(&mut self, chance: u64, yes: T, no: T) -> T {
+        if self.percent(chance) {
+            return yes;
+        }
+        no
+    }
+
+    fn one_of<T: Copy, const N: usize>(&mut self, things: [T; N]) -> T {
+        things[self.below(N as u64) as usize]
+    }
+
+    /// Nothing of an empty row.
     fn pick<T: Copy>(&mut self, things: &[T]) -> Option<T> {
         things.get(self.below(things.len() as u64) as usize).copied()
     }
@@ -124,9 +136,9 @@ impl Profile {
         match kind {
             "hollow" => Profile {
                 faults: (1, 2),
-                opening: [Opening::Tolerated, Opening::Most][random.below(2) as usize],
+                opening: random.one_of([Opening::Tolerated, Opening::Most]),
                 fail: 92,
-                hide: random.pick(&[75, 88, 97]).unwrap_or(75),
+                hide: random.one_of([75, 88, 97]),
                 twins: 15,
                 bend: 2,
                 ..STEADY
@@ -143,13 +155,13 @@ impl Profile {
                 ..STEADY
             },
             "forks" => Profile {
-                faults: (1, random.pick(&[2, 4, 7]).unwrap_or(2)),
+                faults: (1, random.one_of([2, 4, 7])),
                 opening: Opening::Most,
                 records: (300, 2000),
-                fail: random.pick(&[15, 35, 60]).unwrap_or(35),
+                fail: random.one_of([15, 35, 60]),
                 hide: 15,
                 swing: 60,
-                twins: random.pick(&[60, 75]).unwrap_or(60),
+                twins: random.one_of([60, 75]),
                 bend: 1,
                 odd: 14,
                 other: 40,
@@ -166,7 +178,7 @@ impl Profile {
             },
             "full" => Profile {
                 faults: (0, 2),
-                opening: [Opening::Tolerated, Opening::Any][random.below(2) as usize],
+                opening: random.one_of([Opening::Tolerated, Opening::Any]),
                 records: (3000, 4200),
                 fail: 50,
                 hide: 10,
@@ -175,7 +187,7 @@ impl Profile {
             },
             "wide" => Profile {
                 faults: (5, 21),
-                opening: [Opening::Tolerated, Opening::Any][random.below(2) as usize],
+                opening: random.one_of([Opening::Tolerated, Opening::Any]),
                 records: (500, 3000),
                 fail: 25,
                 hide: 10,
@@ -203,11 +215,9 @@ impl Profile {
             },
             "brief" => Profile { faults: (0, 25), opening: Opening::Any, records: (0, 12), ..STEADY },
             "mixed" => Profile {
-                faults: (0, random.pick(&[1, 2, 5, 21]).unwrap_or(1)),
-                opening: random
-                    .pick(&[Opening::Nobody, Opening::Tolerated, Opening::Most, Opening::Any])
-                    .unwrap_or(Opening::Any),
-                records: (0, random.pick(&[100, 600, 1500, 3000]).unwrap_or(600)),
+                faults: (0, random.one_of([1, 2, 5, 21])),
+                opening: random.one_of([Opening::Nobody, Opening::Tolerated, Opening::Most, Opening::Any]),
+                records: (0, random.one_of([100, 600, 1500, 3000])),
                 fail: random.below(100),
                 hide: random.below(60),
                 swing: random.below(60),
@@ -217,7 +227,7 @@ impl Profile {
                 odd: random.below(12),
                 branches: 0,
                 other: random.below(50),
-                damage: random.pick(&[0, 0, 0, 2]).unwrap_or(0),
+                damage: random.one_of([0, 0, 0, 2]),
             },
             _ => STEADY,
         }
@@ -267,11 +277,8 @@ impl Stream {
     }
 
     fn make(mut self, kind: &str) -> Vec<u8> {
-        match kind {
-            "full" if self.random.percent(30) => {
-                self.limit = MAX_RECORDS + self.random.below(3) as usize;
-            }
-            _ => {}
+        if kind == "full" && self.random.percent(30) {
+            self.limit = MAX_RECORDS + self.random.below(3) as usize;
         }
         self.opening(kind);
         let mut view = 1;
@@ -412,7 +419,7 @@ impl Stream {
         let byte = self.random.within(1, 255) as u8;
         match self.random.below(6) {
             0 => record[0] = byte,
-            1 => record[0] = self.random.pick(b"OFSHEVLofshevl").unwrap_or(byte),
+            1 => record[0] = self.random.one_of(*b"OFSHEVLofshevl"),
             2 => record[self.random.within(2, 3) as usize] = byte,
             3 => record[self.random.within(12, 15) as usize] = byte,
             4 => record[0] = b'O',
@@ -430,19 +437,11 @@ impl Stream {
         match call {
             Call::Fast(proposal) => {
                 let bent = self.bend_proposal(proposal);
-                if self.random.percent(15) {
-                    Call::Slow(bent)
-                } else {
-                    Call::Fast(bent)
-                }
+                self.random.either(15, Call::Slow(bent), Call::Fast(bent))
             }
             Call::Slow(proposal) => {
                 let bent = self.bend_proposal(proposal);
-                if self.random.percent(15) {
-                    Call::Fast(bent)
-                } else {
-                    Call::Slow(bent)
-                }
+                self.random.either(15, Call::Fast(bent), Call::Slow(bent))
             }
             Call::Show { seat, block } | Call::Vote { seat, block } => {
                 let (seat, block) = match self.random.below(3) {
@@ -450,11 +449,7 @@ impl Stream {
                     1 => (seat, self.loose_block()),
                     _ => (self.loose_seat(), self.loose_block()),
                 };
-                if self.random.percent(50) {
-                    Call::Show { seat, block }
-                } else {
-                    Call::Vote { seat, block }
-                }
+                self.random.either(50, Call::Show { seat, block }, Call::Vote { seat, block })
             }
             Call::Expire { seat, view } => match self.random.below(3) {
                 0 => Call::Expire { seat: self.loose_seat(), view },
@@ -550,10 +545,8 @@ impl Stream {
 
     /// What happens in one view.
     fn round(&mut self, view: View) {
-        self.hide = match self.random.percent(self.profile.swing) {
-            true => self.random.pick(&[0, 0, 40, 85]).unwrap_or(0),
-            false => self.profile.hide,
-        };
+        let own_chance = self.random.one_of([0, 0, 40, 85]);
+        self.hide = self.random.either(self.profile.swing, own_chance, self.profile.hide);
         let first_new = self.blocks;
         if self.tips.is_empty() || self.letters >= MAX_LETTERS {
             self.make_blocks(view);
@@ -611,13 +604,13 @@ impl Stream {
         self.send(call)
     }
 
-    /// Open seats write letters that name the tip, or blocks that do not outrank it.
+    /// Open seats write letters that name the tip, or blocks that do not outrank it. Kept seats expire.
     fn letters_on(&mut self, view: View, tip: BlockId) -> Option<()> {
         let book = self.book()?;
         let lower: Vec<BlockId> = self.held(book).filter(|&block| book.rank(block) <= book.rank(tip)).collect();
         let rivals: Vec<BlockId> =
             lower.iter().copied().filter(|&block| block != tip && book[block].view == book[tip].view).collect();
-        let share = self.random.pick(&[95, 90, 60, 30])?;
+        let share = self.random.one_of([95, 90, 60, 30]);
         for seat in self.shuffled_seats() {
             let block = match self.random.percent(share) {
                 true => tip,
@@ -626,6 +619,8 @@ impl Stream {
             };
             if self.open.contains(seat) {
                 self.send(Call::Letter { seat, view, block: block.number() });
+            } else if !self.silent.contains(seat) && self.kept_view(seat)? < view {
+                self.send(Call::Expire { seat, view });
             }
         }
         Some(())
@@ -665,21 +660,12 @@ impl Stream {
         let fast = self.fast_call(view);
         let slow = self.slow_call(view);
         let call = match (fast, slow) {
-            (Some(fast), Some(slow)) => {
-                if self.random.percent(30) {
-                    fast
-                } else {
-                    slow
-                }
-            }
+            (Some(fast), Some(slow)) => self.random.either(30, fast, slow),
             (Some(fast), None) => fast,
             (None, Some(slow)) => slow,
             (None, None) => {
                 self.leave_for(view);
-                match self.slow_call(view) {
-                    Some(slow) => slow,
-                    None => self.loose_call(),
-                }
+                self.slow_call(view).unwrap_or_else(|| self.loose_call())
             }
         };
         if let Call::Slow(proposal) = call {
@@ -770,11 +756,10 @@ impl Stream {
         let earlier: Vec<BlockId> = self.held(book).filter(|&block| book[block].view < view).collect();
         let latest = earlier.iter().map(|&block| book[block].view).max()?;
         let tops: Vec<BlockId> = earlier.iter().copied().filter(|&block| book[block].view == latest).collect();
-        let hide = self.hide;
         let block = match self.random.below(20) {
             0 | 1 => self.random.pick(&earlier)?,
             2..=5 => self.random.pick(&earlier[earlier.len().saturating_sub(6)..])?,
-            6..=14 if hide > 50 => self.random.pick(&earlier)?,
+            6..=14 if self.hide > 50 => self.random.pick(&earlier)?,
             _ => self.random.pick(&tops)?,
         };
         self.send(Call::Letter { seat, view, block: block.number() })
@@ -811,12 +796,8 @@ impl Stream {
     /// A show, vote or letter out of turn.
     fn odd_call(&mut self, view: View) {
         let seat = self.random.below(self.seats() as u64) as Seat;
-        let back = match self.random.below(3) {
-            0 => 8,
-            1 => 24,
-            _ => 256,
-        };
-        let block = self.blocks - 1 - self.random.below(back.min(u64::from(self.blocks))) as u32;
+        let back = self.random.one_of([8, 24, 256]).min(u64::from(self.blocks));
+        let block = self.blocks - 1 - self.random.below(back) as u32;
         let call = match self.random.below(10) {
             0 => Call::Letter { seat, view: view + self.random.below(3) as View, block },
             1 => Call::Expire { seat, view: view + self.random.below(3) as View },
