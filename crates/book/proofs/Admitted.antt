@@ -1,6 +1,6 @@
 -- The promises of admission, from its two equations.
 -- Assumes nothing.
-use Rattle.std.proofs.Common.{◌≡◌, ℕ, Bool, true, false, List, [], ◌∷◌, ◌++◌, length, is_ok, Ok, Err, Decides, Result, sym, refl, ap, ◌∙◌, subst, arith}
+use Rattle.std.proofs.Common.{◌≡◌, ℕ, Bool, true, false, List, length, is_ok, Ok, Err, Decides, Result, sym, refl, ap, subst, arith}
 use Rattle.std.proofs.lemmas.Bool.{both_ways}
 use Rattle.quorum.specs.Laws.{QuorumLaws}
 use Rattle.refusal.proofs.Replies.{replied_least}

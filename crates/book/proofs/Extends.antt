@@ -1,12 +1,12 @@
 -- One book later than another: more blocks and more votes, and all else as it was. What is said of a block stays true.
 -- Assumes nothing.
-use Rattle.std.proofs.Common.{◌≡◌, ℕ, suc, ◌<◌, ◌≤◌, Bool, ◌||◌, T, eqb, ◌≢◌, ◌⊎◌, List, [], ◌∷◌, ◌++◌, length, get_or, set, sym, refl, ap, ◌∙◌, subst, inl, inr, ⊎_elim, arith, length-set, get_or-set_other, get_or-set_same}
-use Rattle.std.proofs.lemmas.List.{length_push, set_past}
-use Rattle.std.proofs.lemmas.Bool.{cases_eq, cases_lt}
+use Rattle.std.proofs.Common.{◌≡◌, ℕ, suc, ◌<◌, ◌≤◌, T, ◌≢◌, ◌⊎◌, List, [], ◌∷◌, ◌++◌, length, get_or, sym, refl, ap, ◌∙◌, subst, inl, inr, ⊎_elim, arith, length-set, get_or-set_other, get_or-set_same}
+use Rattle.std.proofs.lemmas.List.{length_push}
+use Rattle.std.proofs.lemmas.Bool.{cases_eq}
 use Rattle.quorum.specs.Sets.{with_keeps}
 use Rattle.quorum.specs.Seats.{Holds}
-use Rattle.safety.specs.Book.{Book, Made, StandsOn, self, up, Slow, NoClash, Good, RanksWithin}
-use Rattle.safety.specs.Sound.{FastRule, ReportRule, Advances, Stays}
+use Rattle.safety.specs.Book.{Made, StandsOn, self, up, NoClash, Good, RanksWithin}
+use Rattle.safety.specs.Sound.{FastRule, Advances, Stays}
 use Rattle.book.specs.Admission.{Design}
 use Rattle.book.specs.Changes.{voted, vote_after}
 use Rattle.book.specs.Kinds.{is_slow}

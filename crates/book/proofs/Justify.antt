@@ -1,19 +1,18 @@
 -- A proposal is accepted exactly when it is justified and nothing else bars it.
 -- Assumes nothing.
-use Rattle.std.proofs.Common.{◌≡◌, ℕ, zero, suc, ◌+◌, ◌^◌, ◌<◌, ◌≤◌, Bool, true, false, cond, not, ◌&&◌, ◌||◌, T, eqb, ltb, leb, ◌≢◌, ◌⊎◌, List, [], ◌∷◌, ◌++◌, length, get_or, Some, None, Ok, Err, sym, refl, ap, ◌∙◌, subst, inl, inr, ⊎_elim, lt_of_lt_of_le, add-one, arith, pow_mono}
-use Rattle.std.proofs.lemmas.Bool.{and_parts, and_from, and_left, and_right, or_from, or_cases, or_parts, both_ways, not-true, not-false, not_from_true, not_from_false, cases_Bool, cases_eq, eqb-true, eq-eqb, lt-ltb, ltb-false, lt-leb, le-ltb, le-leb, cases_lt}
+use Rattle.std.proofs.Common.{◌≡◌, ℕ, ◌<◌, Bool, true, false, not, ◌&&◌, T, eqb, ltb, List, length, get_or, Some, Ok, sym, refl, ap, ◌∙◌, inl, inr, add-one, arith}
+use Rattle.std.proofs.lemmas.Bool.{and_parts, and_from, and_left, and_right, or_from, or_parts, both_ways, not-false, not_from_true, not_from_false, cases_Bool, eqb-true, eq-eqb, lt-ltb, ltb-false, lt-leb, le-ltb, le-leb, cases_lt}
 use Rattle.quorum.specs.Sets.{held_within, subset_means, subset_made}
 use Rattle.quorum.specs.Laws.{QuorumLaws}
-use Rattle.quorum.specs.Seats.{held, Holds, within, subset}
+use Rattle.quorum.specs.Seats.{held, Holds}
 use Rattle.refusal.proofs.Replies.{none_applies, none_refused}
-use Rattle.refusal.specs.Reasons.{NoneApplies, replied}
-use Rattle.rotation.specs.Turns.{is_view, IsView, last_view}
+use Rattle.refusal.specs.Reasons.{NoneApplies}
 use Rattle.safety.specs.Book.{RanksWithin}
 use Rattle.letters.proofs.Searches.{any_below_some, any_below_not, any_below_found, any_below_none}
-use Rattle.book.specs.Admission.{Design, any_below, certificate_view, has_view, shared_reasons, fast_reasons, slow_reasons, fast_reply, slow_reply, outranks, silent, no_letter, latest, report_of, reports_of, reports_it, reports_higher, unfit}
+use Rattle.book.specs.Admission.{Design, any_below, certificate_view, has_view, shared_reasons, fast_reasons, slow_reasons, fast_reply, slow_reply, outranks, no_letter, latest, report_of, reports_of, reports_it, reports_higher}
 use Rattle.book.specs.Known.{Known}
 use Rattle.book.specs.Pages.{at}
-use Rattle.book.specs.Rules.{model, KeptSeat, JustifiedFast, LatestLetter, JustifiedSlow, Unbarred}
+use Rattle.book.specs.Rules.{model, JustifiedFast, JustifiedSlow, Unbarred}
 use Rattle.book.specs.declared.block.Block.{Block}
 use Rattle.letters.specs.declared.letter.Letter.{Letter}
 use Rattle.book.specs.declared.block.Proposal.{Proposal}

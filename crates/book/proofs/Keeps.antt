@@ -1,19 +1,19 @@
 -- Every change keeps the book as the rules say.
 -- Assumes nothing.
-use Rattle.std.proofs.Common.{◌≡◌, ℕ, zero, suc, ◌+◌, ◌^◌, ◌<◌, ◌≤◌, Bool, true, false, cond, not, ◌&&◌, ◌||◌, T, eqb, ltb, ◌≢◌, ◌⊎◌, List, [], ◌∷◌, ◌++◌, length, get_or, Some, None, Option, sym, refl, ap, ◌∙◌, subst, inl, inr, ⊎_elim, arith, length-set}
+use Rattle.std.proofs.Common.{◌≡◌, ℕ, suc, ◌<◌, Bool, true, ◌&&◌, T, ltb, ◌⊎◌, List, [], ◌∷◌, ◌++◌, length, get_or, Some, None, Option, sym, refl, ap, ◌∙◌, subst, inl, inr, ⊎_elim, arith, length-set}
 use Rattle.std.proofs.lemmas.List.{length_push}
-use Rattle.std.proofs.lemmas.Bool.{and_parts, and_from, and_cases, both_ways, cases_Bool, cases_lt, cond-true, cond-false, ltb-true, ltb-false, lt-ltb}
+use Rattle.std.proofs.lemmas.Bool.{and_parts, and_from, both_ways, cases_Bool, cond-true, cond-false, ltb-true, ltb-false, lt-ltb}
 use Rattle.quorum.specs.Sets.{held_within}
 use Rattle.quorum.specs.Laws.{QuorumLaws}
-use Rattle.quorum.specs.Seats.{held, Holds}
-use Rattle.safety.specs.Book.{Book, Made, StandsOn, Slow, Fast, NoClash, Good, RanksWithin}
+use Rattle.quorum.specs.Seats.{Holds}
+use Rattle.safety.specs.Book.{Made, StandsOn, NoClash, Good}
 use Rattle.safety.specs.Sound.{FastRule, ReportRule, Advances, Stays}
-use Rattle.book.specs.Admission.{Design, certificate_view, good, commit_after, entered, named, namers, taken, slow_certificate, reports_of, fast_block, slow_block}
+use Rattle.book.specs.Admission.{Design, certificate_view, good, entered, named, namers, taken, slow_certificate, reports_of, fast_block, slow_block}
 use Rattle.book.specs.Changes.{vote_after}
 use Rattle.book.specs.Kinds.{is_slow}
 use Rattle.book.specs.Known.{Known}
 use Rattle.book.specs.Pages.{no_reports, genesis, at, stands}
-use Rattle.book.specs.Rules.{model, JustifiedFast, LatestLetter, JustifiedSlow, Unbarred, Certified, SlowMade, WellMade}
+use Rattle.book.specs.Rules.{model, JustifiedFast, JustifiedSlow, Certified, SlowMade, WellMade}
 use Rattle.book.specs.declared.block.Block.{Block}
 use Rattle.book.specs.declared.block.Kind.{Kind}
 use Rattle.book.specs.declared.block.Kind.TheVariants.{Fast as FastKind, Slow as SlowKind}
@@ -23,9 +23,9 @@ use Rattle.book.proofs.Chains.{stands_within}
 use Rattle.book.proofs.Entries.{slow_certificate_held}
 use Rattle.book.proofs.Extends.{Extends, extends_push, extends_vote, stands_up, stands_down, no_clash_up, no_clash_down, fast_up, slow_up, commit_up}
 use Rattle.book.proofs.Growth.{at_old, at_new, old_or_new}
-use Rattle.letters.proofs.Named.{one_report, named_is, is_named, names}
+use Rattle.letters.proofs.Named.{named_is, is_named, names}
 use Rattle.book.proofs.Reports.{latest_held, letter_latest, heard_report}
-use Rattle.letters.proofs.Truth.{true_from, from_true}
+use Rattle.letters.proofs.Truth.{true_from}
 use Rattle.book.proofs.Reflect.{stands_relates, relates_stands, good_told, good_tested}
 
 -- The heard seats of a book's blocks are real.

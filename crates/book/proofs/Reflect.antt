@@ -1,12 +1,12 @@
 -- The tests that admission computes decide the relations of the rules.
 -- Assumes nothing.
-use Rattle.std.proofs.Common.{◌≡◌, ℕ, zero, suc, ◌+◌, ◌^◌, ◌<◌, ◌≤◌, Bool, true, false, cond, not, ◌&&◌, ◌||◌, T, eqb, ltb, ◌≢◌, ◌⊎◌, List, [], ◌∷◌, length, get_or, sym, refl, ap, ◌∙◌, subst, inl, inr, ⊎_elim, add-one, arith}
-use Rattle.std.proofs.lemmas.Bool.{and_parts, and_from, and_cases, and_left, and_right, or_cases, or_left, or_right, or_from, or_parts, both_ways, not-true, not-false, not_from_false, not_from_true, cases_Bool, eqb-true, eqb-false, eq-eqb, ne_eqb, lt-ltb, ltb-true, le-ltb}
+use Rattle.std.proofs.Common.{◌≡◌, ℕ, zero, suc, ◌+◌, ◌<◌, ◌≤◌, Bool, true, false, not, T, eqb, ltb, ◌≢◌, ◌⊎◌, List, [], ◌∷◌, length, get_or, sym, refl, ap, ◌∙◌, subst, inl, inr, ⊎_elim, add-one, arith}
+use Rattle.std.proofs.lemmas.Bool.{and_parts, and_from, and_cases, or_cases, or_left, or_right, or_from, or_parts, both_ways, not-true, not-false, not_from_false, cases_Bool, eqb-true, eqb-false, eq-eqb, ne_eqb, lt-ltb, ltb-true}
 use Rattle.quorum.specs.Seats.{held, Holds}
-use Rattle.safety.specs.Book.{Book, Made, StandsOn, self, up, Slow, NoClash, Good}
-use Rattle.letters.proofs.Searches.{any_below_some, any_below_not, any_below_found, any_below_none}
+use Rattle.safety.specs.Book.{StandsOn, self, up, NoClash}
+use Rattle.letters.proofs.Searches.{any_below_some, any_below_found}
 use Rattle.letters.proofs.Truth.{true_from, from_true}
-use Rattle.book.specs.Admission.{Design, any_below, any_of, conflict, rival, told_rival, heard_rival, clashes, good}
+use Rattle.book.specs.Admission.{Design, any_of, conflict, rival, told_rival, heard_rival, clashes, good}
 use Rattle.book.specs.Kinds.{is_slow}
 use Rattle.book.specs.Known.{Known, ParentsBefore}
 use Rattle.book.specs.Pages.{at, chain, among, stands}

@@ -1,13 +1,12 @@
 -- Reports: each names a block of the book, of an earlier view, and an unheard seat's report ranks lowest.
 -- Assumes nothing.
-use Rattle.std.proofs.Common.{◌≡◌, ℕ, zero, suc, ◌+◌, ◌<◌, ◌≤◌, Bool, true, false, cond, not, ◌&&◌, ◌||◌, eqb, ltb, ◌⊎◌, List, [], ◌∷◌, ◌++◌, map, length, get_or, is_some, Some, None, Option, unwrap_or, sym, refl, ap, ◌∙◌, subst, ap₂, inl, inr, arith}
+use Rattle.std.proofs.Common.{◌≡◌, ℕ, ◌<◌, Bool, true, false, cond, not, ◌&&◌, eqb, ltb, List, length, get_or, is_some, Some, None, Option, unwrap_or, sym, refl, ap, ◌∙◌, inl, inr, arith}
 use Rattle.std.proofs.lemmas.List.FromFn.{get_or-map-range_with_len, length-map-range_with_len}
 use Rattle.std.proofs.lemmas.List.{get_or_past}
-use Rattle.std.proofs.lemmas.Bool.{and_parts, and_from, and_right, both_ways, cases_Bool, cases_eq, cases_lt, eqb-true, eq-eqb, le-ltb, or_from, or_cases, not-false}
-use Rattle.std.specs.List.{range_with_len}
+use Rattle.std.proofs.lemmas.Bool.{and_parts, and_from, and_right, both_ways, cases_Bool, cases_lt, eqb-true, eq-eqb, le-ltb, or_from}
 use Rattle.quorum.specs.Seats.{held}
-use Rattle.letters.proofs.Searches.{any_below_found, any_below_some, any_below_not, any_below_same, last_is, last_at}
-use Rattle.book.specs.Admission.{any_below, last_below, written, latest, no_letter, report_of, reports_of, silent, reports_it, reports_higher, outranks, certificate_view}
+use Rattle.letters.proofs.Searches.{any_below_some, any_below_not, any_below_same, last_is, last_at}
+use Rattle.book.specs.Admission.{any_below, written, latest, no_letter, report_of, reports_of, silent, reports_it, reports_higher, outranks, certificate_view}
 use Rattle.book.specs.Known.{Known}
 use Rattle.book.specs.Pages.{at, letter_at}
 use Rattle.book.specs.Rules.{LatestLetter}

@@ -1,10 +1,8 @@
 -- Tests over seats and over the blocks of a chain.
 -- Assumes nothing.
-use Rattle.std.proofs.Common.{◌≡◌, ℕ, zero, suc, ◌+◌, ◌-◌, ◌^◌, ◌<◌, ◌≤◌, Bool, true, false, cond, ◌&&◌, ◌||◌, ltb, List, [], ◌∷◌, length, Some, None, Option, sym, refl, ap, ◌∙◌, ap₂, inl, inr, add-one, arith, below_more}
-use lib.Bits.{or_zero_r}
-use Rattle.std.proofs.lemmas.Bool.{or_left, or_right, or_from, cases_eq, and_left, and_right, le-ltb, lt-ltb}
-use Rattle.quorum.specs.Seats.{union, with_seat}
-use Rattle.book.specs.Admission.{any_below, last_below, set_where, any_of, clashes}
+use Rattle.std.proofs.Common.{◌≡◌, ℕ, zero, suc, ◌<◌, ◌≤◌, Bool, false, ◌||◌, ltb, List, length, refl, ap, ◌∙◌, arith}
+use Rattle.std.proofs.lemmas.Bool.{or_from, and_left, and_right, le-ltb}
+use Rattle.book.specs.Admission.{any_of, clashes}
 use Rattle.book.specs.Kinds.{is_slow}
 use Rattle.book.specs.Known.{ParentsBefore, ParentsEarlier}
 use Rattle.book.specs.Pages.{at, chain}

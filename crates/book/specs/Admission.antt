@@ -1,20 +1,18 @@
 -- What enters a book: the reply to a proposal, and the block that a justified proposal becomes.
 -- Assumes nothing.
-use Rattle.std.specs.Prelude.{ℕ, zero, suc, ◌+◌, ◌^◌, Bool, true, false, cond, not, ◌&&◌, ◌||◌, List, [], ◌∷◌, ◌++◌, map, length, is_some, Some, None, Ok, Err, Option, Result, ◌==◌, nat_le, nat_lt, slice_index}
-use Rattle.std.specs.List.{range_with_len}
-use Rattle.std.specs.Option.{unwrap_or}
-use Rattle.quorum.specs.Seats.{held, within, union, subset}
+use Rattle.std.specs.Prelude.{ℕ, ◌+◌, Bool, false, cond, not, ◌&&◌, ◌||◌, List, [], ◌∷◌, ◌++◌, length, Some, None, Ok, Err, Option, Result, ◌==◌, nat_le, nat_lt, slice_index}
+use Rattle.quorum.specs.Seats.{held, within, subset}
 use Rattle.refusal.specs.Reasons.{Reason, replied}
 use Rattle.refusal.specs.declared.Refusal.{Refusal}
 use Rattle.refusal.specs.declared.Refusal.TheVariants.{UnknownSeatInSet, NoSuchBlock, ViewOutOfRange, BlocksFull, LeaderHasProposed, HeardNoQuorum, HeardSeatSilent, ParentUnfit}
 use Rattle.rotation.specs.Turns.{is_view}
 use Rattle.book.specs.declared.block.Block.{Block}
 use Rattle.book.specs.declared.block.Kind.{Kind}
-use Rattle.book.specs.declared.block.Kind.TheVariants.{First, Fast, Slow}
+use Rattle.book.specs.declared.block.Kind.TheVariants.{Fast, Slow}
 use Rattle.letters.specs.declared.letter.Letter.{Letter}
 use Rattle.book.specs.declared.block.Proposal.{Proposal}
 use Rattle.book.specs.Kinds.{is_slow}
-use Rattle.book.specs.Pages.{no_reports, at, letter_at, chain, stands}
+use Rattle.book.specs.Pages.{no_reports, at, chain, stands}
 unfoldable pub use Rattle.letters.specs.Searches.{any_below, last_below, set_where}
 unfoldable pub use Rattle.letters.specs.Letters.{reports_of}
 pub use Rattle.letters.specs.Letters.{written, latest, no_letter, report_of, silent}

@@ -1,8 +1,8 @@
 -- The book's other changes: a vote, and a letter.
 -- Assumes nothing.
-use Rattle.std.specs.Prelude.{ℕ, ◌+◌, Bool, not, ◌||◌, List, [], ◌∷◌, length, Ok, Err, Result, nat_le, slice_set}
+use Rattle.std.specs.Prelude.{ℕ, ◌+◌, not, List, [], ◌∷◌, length, Result, nat_le, slice_set}
 use Rattle.quorum.specs.Seats.{with_seat, how_many}
-use Rattle.refusal.specs.Reasons.{Reason, replied}
+use Rattle.refusal.specs.Reasons.{replied}
 use Rattle.refusal.specs.declared.Refusal.{Refusal}
 use Rattle.refusal.specs.declared.Refusal.TheVariants.{NoSuchBlock, ViewOutOfRange, BlockNotBelowLetter, LettersFull}
 use Rattle.rotation.specs.Turns.{is_view}

@@ -1,10 +1,9 @@
 -- The book as lists of blocks and letters, and the chains in it.
 -- Assumes nothing.
-use Rattle.std.specs.Prelude.{◌≡◌, ℕ, zero, suc, ◌<◌, ◌≤◌, Bool, true, false, cond, not, ◌&&◌, ◌||◌, List, [], ◌∷◌, length, replicate, ◌==◌, slice_index_or}
+use Rattle.std.specs.Prelude.{ℕ, zero, suc, Bool, false, cond, ◌||◌, List, [], ◌∷◌, replicate, ◌==◌, slice_index_or}
 use Rattle.quorum.specs.Seats.{everyone}
 use Rattle.book.specs.declared.block.Block.{Block}
-use Rattle.book.specs.declared.block.Kind.{Kind}
-use Rattle.book.specs.declared.block.Kind.TheVariants.{First, Fast, Slow}
+use Rattle.book.specs.declared.block.Kind.TheVariants.{First}
 pub use Rattle.letters.specs.Letters.{letter_at}
 
 -- a place for the report of each seat, and nothing there

@@ -1,9 +1,9 @@
 -- What the book's changes promise.
 -- Assumes nothing.
-use Rattle.std.specs.Prelude.{◌≡◌, ℕ, List, [], ◌∷◌, ◌++◌, length, is_ok, Decides, Result}
-use Rattle.refusal.specs.Reasons.{Reason, Least, replied}
+use Rattle.std.specs.Prelude.{◌≡◌, ℕ, List, is_ok, Decides, Result}
+use Rattle.refusal.specs.Reasons.{Least}
 use Rattle.refusal.specs.declared.Refusal.{Refusal}
-use Rattle.book.specs.Admission.{Design, fast_reasons, slow_reasons, fast_reply, slow_reply, fast_block, slow_block, fast_blocks, slow_blocks}
+use Rattle.book.specs.Admission.{Design, fast_reasons, slow_reasons, fast_reply, slow_reply, fast_blocks, slow_blocks}
 use Rattle.book.specs.Rules.{JustifiedFast, JustifiedSlow, Unbarred, WellMade}
 use Rattle.book.specs.declared.block.Block.{Block}
 use Rattle.letters.specs.declared.letter.Letter.{Letter}

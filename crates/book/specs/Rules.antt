@@ -1,12 +1,11 @@
 -- The rules of the book, as relations between blocks, letters and proposals.
 -- Assumes nothing.
-use Rattle.std.specs.Prelude.{◌≡◌, ℕ, suc, ◌<◌, ◌≤◌, Bool, T, ◌⊎◌, List, length, ◌≢◌, slice_index}
-use Rattle.quorum.specs.Laws.{QuorumLaws}
+use Rattle.std.specs.Prelude.{◌≡◌, ℕ, suc, ◌<◌, T, ◌⊎◌, List, length, ◌≢◌, slice_index}
 use Rattle.quorum.specs.Seats.{held, Holds}
 use Rattle.rotation.specs.Turns.{IsView}
-use Rattle.safety.specs.Book.{Book, Made, StandsOn, Slow, Fast, RanksWithin, Good}
+use Rattle.safety.specs.Book.{Book, Made, StandsOn, Slow, Fast, RanksWithin}
 use Rattle.safety.specs.Sound.{FastRule, ReportRule, Advances, Stays}
-use Rattle.book.specs.Admission.{Design, namers}
+use Rattle.book.specs.Admission.{Design}
 use Rattle.book.specs.Kinds.{is_slow}
 use Rattle.book.specs.Pages.{at, letter_at}
 use Rattle.book.specs.declared.block.Block.{Block}

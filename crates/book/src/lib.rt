@@ -1,4 +1,6 @@
 // The book: blocks, letters, and what may enter.
+#![tactic(auto)]
+
 mod admission;
 pub mod block;
 mod certificate;

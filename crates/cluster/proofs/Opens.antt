@@ -1,9 +1,9 @@
 -- What a newly made cluster is, and that it is safe.
 -- Assumes nothing.
-use Rattle.std.proofs.Common.{◌≡◌, ℕ, ◌<◌, ◌≤◌, min, Bool, T, List, [], ◌∷◌, replicate, vec_items, sym, refl, ap, ◌∙◌, subst, arith}
+use Rattle.std.proofs.Common.{◌≡◌, ℕ, min, Bool, [], ◌∷◌, replicate, vec_items, sym, subst, arith}
 use Rattle.quorum.specs.Laws.{QuorumLaws}
 use Rattle.rotation.specs.Laws.{RotationLaws}
-use Rattle.book.specs.Admission.{Design, design}
+use Rattle.book.specs.Admission.{design}
 use Rattle.book.specs.Pages.{genesis}
 use Rattle.protocol.specs.Held.{held_by}
 use Rattle.cluster.specs.Opening.{SafeIf}

@@ -1,4 +1,6 @@
 // Worked examples of every layer, as tests.
+#![tactic(auto)]
+
 #[cfg(test)]
 mod books;
 #[cfg(test)]

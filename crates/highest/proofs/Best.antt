@@ -21,7 +21,7 @@ module _ {X : Type 0} {R : X → X → Ordering} (order : IsTotalOrder R) where
   turned Greater = refl
 
   -- what an answer of `cmp` tells
-  pub answered : (x y : X) (o : Ordering) → R x y o → above order x y ≡ is_gt o
+  pub answered : (x y : X) (o : Ordering) → o ≡ R x y → above order x y ≡ is_gt o
   answered x y o h =
       ap is_lt (order.antisymm y x) ∙ ap (λ p. is_lt (ordering_reverse p)) (sym h) ∙ turned o
 

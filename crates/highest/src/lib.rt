@@ -1,4 +1,6 @@
 // Picking the highest of a row.
+#![tactic(auto)]
+
 ghost use Rattle.std.specs.Cmp.{IsTotalOrder};
 ghost use Rattle.highest.specs.Row.{FirstHighest};
 

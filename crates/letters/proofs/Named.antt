@@ -1,13 +1,12 @@
 -- The block that a quorum of the reports names.
 -- Assumes nothing.
-use Rattle.std.proofs.Common.{◌≡◌, ℕ, zero, suc, ◌^◌, ◌<◌, ◌≤◌, Bool, true, false, cond, not, ◌&&◌, ◌||◌, T, eqb, ltb, ◌⊎◌, List, length, get_or, Some, None, Option, sym, refl, ap, ◌∙◌, subst, ap₂, inl, inr, ⊎_elim, lt_of_lt_of_le, lt_of_le_of_lt, arith, eqb→eq, pow_pos, pow_mono}
+use Rattle.std.proofs.Common.{◌≡◌, ℕ, zero, suc, ◌^◌, ◌<◌, ◌≤◌, Bool, true, false, cond, ◌&&◌, ◌||◌, T, eqb, ltb, List, get_or, Some, None, Option, sym, refl, ap, ◌∙◌, subst, ap₂, inl, inr, lt_of_lt_of_le, lt_of_le_of_lt, arith, eqb→eq, pow_pos, pow_mono}
 use lib.Bits.{bit_and, and_le_r, or_lt}
-use lib.Dec.{leb-suc-zero}
 use lib.Pow.{pow-lt}
 use Rattle.std.proofs.lemmas.Bool.{and_parts, and_from, and_left, and_right, both_ways, cases_Bool, cases_eq, cases_lt, eqb-true, eq-eqb, ne_eqb, lt-ltb, le-ltb}
 use Rattle.quorum.specs.Sets.{held_none, held_one, held_union, held_within, subset_made}
 use Rattle.quorum.specs.Laws.{QuorumLaws}
-use Rattle.quorum.specs.Seats.{held, Holds, union, subset}
+use Rattle.quorum.specs.Seats.{held, Holds}
 use Rattle.letters.proofs.Searches.{last_is, last_nowhere}
 use Rattle.letters.specs.Named.{reports_it, namers, decides_with, named, OneNamed}
 use Rattle.letters.specs.Searches.{set_where}

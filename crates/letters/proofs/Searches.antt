@@ -1,6 +1,6 @@
 -- Searches over places, one place on and read back.
 -- Assumes nothing.
-use Rattle.std.proofs.Common.{◌≡◌, ℕ, zero, suc, ◌+◌, ◌-◌, ◌^◌, ◌<◌, Bool, true, false, cond, ◌||◌, Some, None, Option, sym, refl, ap, ◌∙◌, ap₂, inl, inr, add-one, arith, below_more}
+use Rattle.std.proofs.Common.{◌≡◌, ℕ, zero, suc, ◌+◌, ◌-◌, ◌^◌, ◌<◌, Bool, true, false, cond, ◌||◌, Some, None, sym, refl, ap, ◌∙◌, ap₂, inl, inr, add-one, arith, below_more}
 use lib.Bits.{or_zero_r}
 use Rattle.std.proofs.lemmas.Bool.{or_left, or_right, or_from, or_cases, both_ways, cases_Bool, cases_eq, lt-ltb}
 use Rattle.quorum.specs.Seats.{union, with_seat}

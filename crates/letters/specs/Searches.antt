@@ -1,6 +1,6 @@
 -- Searches over places, from 0 up or from the last down.
 -- Assumes nothing.
-use Rattle.std.specs.Prelude.{ℕ, zero, suc, ◌^◌, Bool, true, false, cond, ◌||◌, Some, None, Option}
+use Rattle.std.specs.Prelude.{ℕ, zero, suc, ◌^◌, Bool, false, cond, ◌||◌, Some, None, Option}
 use Rattle.quorum.specs.Seats.{union}
 
 -- whether a test passes for some seat below n

@@ -11,7 +11,6 @@ use Rattle.letters.specs.declared.letter.Letter.{Letter}
 use Rattle.protocol.specs.Calls.{reply, after, run}
 use Rattle.protocol.specs.Marked.{four, proposal, show_all, certificate_in, commit_in, started, two_blocks, three_blocks, failed_view, carried_on, certified_again, split_votes, other_branch, other_certified, told_more, reported_branch, reported_certified, MarkedRuns}
 use Rattle.protocol.specs.State.{State, fresh, idle}
-use Rattle.protocol.specs.declared.call.Call.{Call}
 use Rattle.protocol.specs.declared.call.Call.TheVariants.{Fast, Slow, Show, Expire, Letter as Write}
 use Rattle.protocol.specs.declared.seat.Seat.{Seat}
 

@@ -1,21 +1,18 @@
 -- The invariant of a run: what holds after opening, and is kept by every call.
 -- Assumes nothing.
-use Rattle.std.proofs.Common.{◌≡◌, ℕ, zero, suc, ◌-◌, ◌^◌, ◌<◌, ◌≤◌, Bool, true, false, cond, not, ◌&&◌, T, ltb, ◌≢◌, ◌⊎◌, List, [], ◌∷◌, ◌++◌, length, get_or, set, replicate, sym, refl, ap, ◌∙◌, subst, inl, inr, ⊎_elim, arith}
+use Rattle.std.proofs.Common.{◌≡◌, ℕ, ◌<◌, ◌≤◌, Bool, ◌⊎◌, List, length, get_or, subst, inl, inr, ⊎_elim, arith}
 use Rattle.quorum.specs.Sets.{held_within}
-use Rattle.quorum.specs.Laws.{QuorumLaws}
-use Rattle.quorum.specs.Seats.{held, Holds, everyone}
-use Rattle.safety.specs.Book.{Book, Made, StandsOn, Kept, Slow}
+use Rattle.quorum.specs.Seats.{Holds}
+use Rattle.safety.specs.Book.{Made, Slow}
 use Rattle.safety.specs.Sound.{Sound, SlowRule, OwnCert}
 use Rattle.book.specs.Admission.{Design}
 use Rattle.book.specs.Known.{Known}
-use Rattle.book.specs.Pages.{genesis, at, letter_at}
+use Rattle.book.specs.Pages.{at, letter_at}
 use Rattle.book.specs.Rules.{model, WellMade, SlowMade, Certified}
 use Rattle.book.specs.declared.block.Block.{Block}
 use Rattle.letters.specs.declared.letter.Letter.{Letter}
-use Rattle.book.proofs.Growth.{known_first}
-use Rattle.book.proofs.Keeps.{well_first}
 use Rattle.protocol.specs.Safety.{Fit}
-use Rattle.protocol.specs.State.{State, seat_at, idle, fresh}
+use Rattle.protocol.specs.State.{idle}
 use Rattle.protocol.specs.declared.seat.Seat.{Seat}
 
 -- a kept seat of a design: one of the n seats, and not open

@@ -1,20 +1,20 @@
 -- Every change of a cluster keeps the invariant.
 -- Assumes nothing.
-use Rattle.std.proofs.Common.{◌≡◌, ℕ, zero, suc, ◌<◌, ◌≤◌, Bool, true, false, cond, not, ◌&&◌, T, ltb, leb, ◌≢◌, ◌⊎◌, List, [], ◌∷◌, ◌++◌, length, get_or, set, replicate, sym, refl, ap, ◌∙◌, subst, inl, inr, ⊎_elim, arith, length-set, get_or-set_other, get_or-set_same}
+use Rattle.std.proofs.Common.{◌≡◌, ℕ, ◌<◌, ◌≤◌, Bool, true, false, cond, T, ◌⊎◌, List, [], ◌∷◌, ◌++◌, length, get_or, set, replicate, sym, refl, ap, ◌∙◌, subst, inl, inr, ⊎_elim, arith, length-set, get_or-set_other, get_or-set_same}
 use Rattle.std.proofs.lemmas.List.{get_or_append_left, get_or_push, length_push, length-replicate}
-use Rattle.std.proofs.lemmas.Bool.{cases_eq, cases_lt, cases_Bool, lt-ltb, ltb-true, leb-true, and_parts, cond-true, cond-false, both_ways}
-use Rattle.quorum.specs.Sets.{held_none, held_everyone, with_keeps, with_adds, with_holds}
-use Rattle.quorum.specs.Seats.{held, Holds, everyone}
-use Rattle.safety.specs.Book.{Made, Slow}
+use Rattle.std.proofs.lemmas.Bool.{cases_eq, cases_lt, lt-ltb, ltb-true}
+use Rattle.quorum.specs.Sets.{held_none, held_everyone, with_adds, with_holds}
+use Rattle.quorum.specs.Seats.{Holds, everyone}
+use Rattle.safety.specs.Book.{Made}
 use Rattle.book.specs.Admission.{Design}
 use Rattle.book.specs.Changes.{voted, vote_after}
 use Rattle.book.specs.Kinds.{is_slow}
 use Rattle.book.specs.Known.{Known}
-use Rattle.book.specs.Pages.{genesis, at, letter_at, stands}
+use Rattle.book.specs.Pages.{genesis, at, letter_at}
 use Rattle.book.specs.Rules.{model, WellMade}
 use Rattle.book.specs.declared.block.Block.{Block}
 use Rattle.letters.specs.declared.letter.Letter.{Letter}
-use Rattle.book.proofs.Extends.{Later, Extends, extends_push, extends_vote}
+use Rattle.book.proofs.Extends.{Extends, extends_vote}
 use Rattle.book.proofs.Growth.{at_old, at_new, old_or_new, known_first, known_vote, known_letter}
 use Rattle.book.proofs.Keeps.{well_first, well_vote}
 use Rattle.letters.proofs.Truth.{true_from, from_true}

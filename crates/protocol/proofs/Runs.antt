@@ -1,18 +1,17 @@
 -- Every call keeps the invariant, and lets the cluster only grow; so does every run.
 -- Assumes nothing.
-use Rattle.std.proofs.Common.{◌≡◌, ℕ, zero, suc, ◌<◌, ◌≤◌, Bool, true, false, cond, not, ◌&&◌, T, ltb, leb, ◌≢◌, ◌⊎◌, List, [], ◌∷◌, ◌++◌, length, get_or, set, Ok, Err, Result, sym, refl, ap, ◌∙◌, subst, inl, inr, ⊎_elim, arith, get_or-set_other, get_or-set_same}
-use Rattle.std.proofs.lemmas.Bool.{cases_eq, cases_Bool, leb-true, leb-false, ltb-true, and_parts, not-false}
-use Rattle.quorum.specs.Seats.{held, Holds}
+use Rattle.std.proofs.Common.{◌≡◌, ℕ, ◌<◌, ◌≤◌, Bool, true, false, cond, ltb, leb, List, [], ◌∷◌, ◌++◌, length, get_or, set, Ok, Err, Result, sym, refl, ap, ◌∙◌, subst, inl, inr, arith, get_or-set_other, get_or-set_same}
+use Rattle.std.proofs.lemmas.Bool.{cases_eq, leb-true, leb-false, ltb-true, and_parts, not-false}
+use Rattle.quorum.specs.Seats.{Holds}
 use Rattle.refusal.proofs.Replies.{none_applies}
 use Rattle.refusal.specs.declared.Refusal.{Refusal}
-use Rattle.safety.specs.Book.{Made, StandsOn, self, Slow}
+use Rattle.safety.specs.Book.{StandsOn, self}
 use Rattle.safety.proofs.Chains.{stands_trans}
-use Rattle.book.specs.Admission.{Design, conflict, fast_reply, slow_reply, fast_block, slow_block, fast_blocks, slow_blocks, grown, reports_of}
+use Rattle.book.specs.Admission.{conflict, fast_reply, slow_reply, fast_block, slow_block, grown}
 use Rattle.book.specs.Changes.{vote_after}
-use Rattle.book.specs.Kinds.{is_slow}
 use Rattle.book.specs.Known.{Known}
-use Rattle.book.specs.Pages.{at, letter_at, stands}
-use Rattle.book.specs.Rules.{model, WellMade, LatestLetter, JustifiedSlow}
+use Rattle.book.specs.Pages.{at, stands}
+use Rattle.book.specs.Rules.{model, WellMade, JustifiedSlow}
 use Rattle.book.specs.declared.block.Block.{Block}
 use Rattle.letters.specs.declared.letter.Letter.{Letter}
 use Rattle.book.specs.declared.block.Proposal.{Proposal}
@@ -24,7 +23,7 @@ use Rattle.letters.proofs.Truth.{true_from, from_true}
 use Rattle.book.proofs.Reflect.{not_from, stands_relates}
 use Rattle.book.proofs.Reports.{heard_report, letter_latest}
 use Rattle.quorum.specs.Sets.{held_within}
-use Rattle.protocol.specs.Calls.{reply, after, changed, run, votes, shown, show_after, expire_after, show_reasons, expire_reasons, vote_reasons, letter_reasons, with_blocks, with_letters}
+use Rattle.protocol.specs.Calls.{reply, after, changed, run, votes, show_after, expire_after, show_reasons, expire_reasons, vote_reasons, letter_reasons, with_blocks, with_letters}
 use Rattle.protocol.specs.Safety.{Fit}
 use Rattle.protocol.specs.State.{State, seat_at, idle}
 use Rattle.protocol.specs.declared.call.Call.{Call}

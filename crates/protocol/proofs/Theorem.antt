@@ -1,9 +1,9 @@
 -- The safety law: the argument over sound books, at every moment of every run.
 -- Assumes nothing.
-use Rattle.std.proofs.Common.{◌≡◌, ℕ, zero, suc, ◌<◌, ◌≤◌, Bool, true, false, cond, not, ◌&&◌, ◌||◌, T, eqb, ltb, leb, ◌≢◌, ◌⊎◌, List, [], ◌∷◌, ◌++◌, reverse, length, get_or, is_ok, Ok, Err, Result, sym, refl, ap, ◌∙◌, subst, ap₂, inl, inr, ⊎_elim, arith, get_or-set_same}
-use Rattle.std.proofs.lemmas.List.{append_assoc, reverse-append}
-use Rattle.std.proofs.lemmas.Bool.{and_parts, and_cases, leb-false, both_ways, cases_Bool, cases_eq, eq-eqb, ne_eqb, ltb-true, not-true, not-false, or_cases, or_left, or_right}
-use Rattle.quorum.specs.Seats.{held, Holds}
+use Rattle.std.proofs.Common.{◌≡◌, ℕ, zero, suc, ◌<◌, ◌≤◌, Bool, true, false, cond, not, T, eqb, ltb, leb, List, [], ◌∷◌, ◌++◌, reverse, length, is_ok, Ok, Err, Result, sym, refl, ap, ◌∙◌, subst, inl, inr, ⊎_elim, arith, get_or-set_same}
+use Rattle.std.proofs.lemmas.List.{reverse-append}
+use Rattle.std.proofs.lemmas.Bool.{and_parts, and_cases, leb-false, both_ways, cases_Bool, cases_eq, eq-eqb, ltb-true, not-true, not-false, or_cases, or_left, or_right}
+use Rattle.quorum.specs.Seats.{held}
 use Rattle.refusal.proofs.Replies.{replied_least}
 use Rattle.refusal.specs.Reasons.{Least}
 use Rattle.refusal.specs.declared.Refusal.{Refusal}
@@ -12,7 +12,7 @@ use Rattle.safety.proofs.Chains.{stands_trans}
 use Rattle.safety.proofs.Commits.{proposals_stand, commits_agree}
 use Rattle.safety.proofs.Elders.{elders_stand}
 use Rattle.safety.proofs.Votes.{kept_leader_stands}
-use Rattle.safety.specs.Book.{Book, Made, StandsOn, self, up, Kept, Behind}
+use Rattle.safety.specs.Book.{StandsOn, self, up}
 use Rattle.book.specs.Admission.{Design, conflict}
 use Rattle.book.specs.Known.{ParentsBefore}
 use Rattle.book.specs.Pages.{at, chain_in, chain, among, stands}
@@ -20,14 +20,14 @@ use Rattle.book.specs.Rules.{model}
 use Rattle.book.specs.declared.block.Block.{Block}
 use Rattle.book.proofs.Chains.{chain_step}
 use Rattle.book.proofs.Extends.{Extends, stands_up}
-use Rattle.letters.proofs.Truth.{true_from, from_true}
+use Rattle.letters.proofs.Truth.{true_from}
 use Rattle.book.proofs.Reflect.{not_from, stands_relates, relates_stands}
 use Rattle.protocol.specs.Calls.{reply, after, changed, run, votes, show_after, show_reasons}
-use Rattle.protocol.specs.Safety.{book_of, Starts, Agreement, KeptLeaderLasts, Elder, EldersCommitted, Fit, SafetyLaw, ProposalsLaw}
+use Rattle.protocol.specs.Safety.{book_of, Starts, Agreement, KeptLeaderLasts, Elder, Fit, SafetyLaw, ProposalsLaw}
 use Rattle.protocol.specs.State.{State, seat_at, idle, is_kept, fresh, commits}
 use Rattle.protocol.specs.declared.call.Call.{Call}
 use Rattle.protocol.specs.declared.call.Call.TheVariants.{Show}
-use Rattle.protocol.proofs.Invariant.{KeptIn, Inv, sound}
+use Rattle.protocol.proofs.Invariant.{KeptIn, sound}
 use Rattle.protocol.proofs.Keeping.{inv_first}
 use Rattle.protocol.proofs.Runs.{InvAt, Grows, KeptBy, Showing, showing, grows_trans, call_keeps, run_keeps}
 

@@ -1,6 +1,6 @@
 -- What each call replies, and the cluster that follows it.
 -- Assumes nothing.
-use Rattle.std.specs.Prelude.{ℕ, ◌+◌, Bool, cond, not, ◌&&◌, ◌||◌, List, [], ◌∷◌, ◌++◌, length, Ok, Err, Result, nat_le, nat_lt, slice_set}
+use Rattle.std.specs.Prelude.{ℕ, ◌+◌, Bool, cond, not, ◌&&◌, List, [], ◌∷◌, ◌++◌, length, Ok, Err, Result, nat_le, nat_lt, slice_set}
 use Rattle.quorum.specs.Seats.{held, with_seat, how_many}
 use Rattle.refusal.specs.Reasons.{Reason, replied}
 use Rattle.refusal.specs.declared.Refusal.{Refusal}

@@ -1,14 +1,12 @@
 -- Worked runs, as facts about the definitions.
 -- Assumes nothing.
-use Rattle.std.specs.Prelude.{◌≡◌, ℕ, true, false, List, [], ◌∷◌, ◌++◌, Ok, Err, Result}
+use Rattle.std.specs.Prelude.{◌≡◌, ℕ, true, false, List, [], ◌∷◌, ◌++◌, Ok, Err}
 use Rattle.quorum.specs.Counting.{count_quorum, seats_for}
 use Rattle.quorum.specs.Weighing.{weight_quorum, weight_tolerated}
-use Rattle.refusal.specs.declared.Refusal.{Refusal}
 use Rattle.refusal.specs.declared.Refusal.TheVariants.{ParentUnfit}
 use Rattle.rotation.specs.Robin.{robin_leads}
 use Rattle.book.specs.Admission.{Design, design}
 use Rattle.book.specs.Pages.{at}
-use Rattle.letters.specs.declared.letter.Letter.{Letter}
 use Rattle.book.specs.declared.block.Proposal.{Proposal}
 use Rattle.protocol.specs.Calls.{reply, after, run}
 use Rattle.protocol.specs.State.{State, fresh}

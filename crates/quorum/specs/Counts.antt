@@ -1,11 +1,10 @@
 -- The laws of the count rule.
 -- Assumes nothing.
-use Rattle.std.specs.Prelude.{◌≡◌, ℕ, ◌+◌, ◌*◌, ◌^◌, ◌<◌, ◌≤◌, Bool, T, ltb, leb, replicate}
-use Rattle.std.proofs.Common.{sym, subst, ◌∙◌, arith, leb→le, le→leb}
+use Rattle.std.specs.Prelude.{ℕ, ◌+◌, ◌*◌, ◌≤◌, replicate}
+use Rattle.std.proofs.Common.{sym, subst, arith, leb→le, le→leb}
 use Rattle.std.proofs.lemmas.List.{length-replicate}
 use Rattle.quorum.specs.Counting.{seats_for, count_quorum, count_tolerated}
 use Rattle.quorum.specs.Laws.{QuorumLaws}
-use Rattle.quorum.specs.Seats.{within, how_many, weight_of}
 use Rattle.quorum.specs.Thresholds.{Thresholds, threshold_laws, both_passed, both_pass}
 use Rattle.quorum.specs.Weights.{count_weight, total_ones}
 

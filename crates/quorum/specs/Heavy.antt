@@ -3,7 +3,7 @@
 use Rattle.std.specs.Prelude.{ℕ, ◌*◌, ◌<◌, ◌≤◌, List, [], ◌∷◌, length, refl}
 use Rattle.std.proofs.Common.{arith, leb→le, le→leb}
 use Rattle.quorum.specs.Laws.{QuorumLaws}
-use Rattle.quorum.specs.Seats.{total_weight, weight_of}
+use Rattle.quorum.specs.Seats.{total_weight}
 use Rattle.quorum.specs.Weighing.{weight_quorum, weight_tolerated}
 use Rattle.quorum.specs.Thresholds.{Thresholds, threshold_laws, both_passed, both_pass}
 

@@ -1,4 +1,6 @@
 // Sets of seats, and the rules that say which of them decide.
+#![tactic(auto)]
+
 pub mod count;
 pub mod rule;
 pub mod seats;

@@ -7,7 +7,6 @@ use Rattle.refusal.specs.Reasons.{Reason, replied}
 use Rattle.refusal.specs.declared.Refusal.{Refusal}
 use Rattle.refusal.specs.declared.Refusal.TheVariants.{RecordCutShort, RecordKindUnknown, SpareByteNotZero}
 use Rattle.book.specs.declared.block.Proposal.{Proposal}
-use Rattle.protocol.specs.declared.call.Call.{Call}
 use Rattle.protocol.specs.declared.call.Call.TheVariants.{Fast as FastCall, Slow as SlowCall, Show as ShowCall, Expire as ExpireCall, Vote as VoteCall, Letter as LetterCall}
 use Rattle.records.specs.declared.record.Kind.{Kind}
 use Rattle.records.specs.declared.record.Kind.TheVariants.{Open, Fast, Slow, Show, Expire, Vote, Letter}

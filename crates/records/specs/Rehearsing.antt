@@ -12,7 +12,6 @@ use Rattle.rotation.specs.declared.robin.RoundRobin.{RoundRobin}
 use Rattle.book.specs.Admission.{Design, design}
 use Rattle.protocol.specs.Calls.{reply, after}
 use Rattle.protocol.specs.Held.{held_by}
-use Rattle.cluster.specs.Opening.{Opening}
 use Rattle.protocol.specs.State.{State, fresh}
 use Rattle.cluster.specs.declared.cluster.Cluster.{Cluster}
 use Rattle.records.specs.declared.record.Record.{Record}

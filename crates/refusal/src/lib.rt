@@ -1,4 +1,6 @@
 // Why a call is told no: one enum for the whole project, each reason with its number and its sentence.
+#![tactic(auto)]
+
 ghost use Rattle.std.specs.Prelude.{◌≡◌, Some};
 ghost use Rattle.refusal.specs.Numbers.{number_of};
 ghost use Rattle.refusal.specs.Sentences.{sentence_of};

@@ -1,4 +1,6 @@
 // Plays the records of standard input on a cluster, and prints a line for each.
+#![tactic(auto)]
+
 use records::reader::Reader;
 use records::rehearsal::Rehearsal;
 use refusal::Refusal;

@@ -1,4 +1,6 @@
 // A design's rule and rotation, printed as a table for a planner.
+#![tactic(auto)]
+
 use quorum::count::CountRule;
 use quorum::rule::QuorumRule;
 use quorum::weight::WeightRule;

@@ -1,2 +1,3 @@
 mod Cycles
+mod Entries
 pub mod Leaders

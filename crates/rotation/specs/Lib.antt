@@ -2,4 +2,4 @@ pub mod Laws
 pub mod Listing
 pub mod Robin
 pub mod Turns
-pub mod Entries
+pub mod Lawful

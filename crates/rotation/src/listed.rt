@@ -1,9 +1,9 @@
 // The listed rotation.
-ghost use Rattle.std.specs.Prelude.{◌≡◌, ◌-◌, ◌%◌, ◌≤◌, true, length, vec_len};
+ghost use Rattle.std.specs.Prelude.{◌≡◌, ◌≤◌, true, vec_len};
+ghost use Rattle.std.proofs.Common.{subst};
 ghost use Rattle.refusal.specs.Outcomes.{by};
+ghost use Rattle.rotation.specs.Lawful.{list_laws};
 ghost use Rattle.rotation.specs.Listing.{all_below, listed, list_leads};
-ghost use Rattle.std.proofs.Common.{mod-lt, arith};
-ghost use Rattle.rotation.specs.Entries.{all_below_at};
 
 use crate::turns::{LAST_VIEW, Rotation, is_view};
 use refusal::Refusal;
@@ -59,15 +59,7 @@ impl Rotation for Listed {
 
     ghost leads = { λ t. list_leads t.order.items };
 
-    ghost lawful = { λ rotation.
-        let order = rotation.order.items in
-        let some : 1 ≤ length order = omega (arith, rotation.some, rotation.order.ok.0) in
-        let seated = all_below_at rotation.seats order rotation.seated in
-        record {
-          seats_some = omega (arith, seated 0 some);
-          seats_fit = rotation.fit;
-          leader_seated = λ v viewed. seated ((v - 1) % length order) (mod-lt (v - 1) some);
-        } };
+    ghost lawful = { λ t. list_laws t.seats t.order.items t.fit (subst (λ n. 1 ≤ n) t.order.ok.0 t.some) t.seated };
 
     fn seats(&self) -> u8 {
         self.seats

@@ -1,8 +1,8 @@
 // Round robin.
 ghost use Rattle.std.specs.Prelude.{◌≡◌, ◌<◌, ◌≤◌};
 ghost use Rattle.refusal.specs.Outcomes.{by};
+ghost use Rattle.rotation.specs.Lawful.{robin_laws};
 ghost use Rattle.rotation.specs.Robin.{robin, robin_from, robin_leads};
-ghost use Rattle.std.proofs.Common.{rules, arith};
 
 use crate::turns::{LAST_VIEW, Rotation, is_view};
 use refusal::Refusal;
@@ -43,7 +43,7 @@ impl Rotation for RoundRobin {
 
     ghost leads = { λ t. robin_leads t.seats t.first };
 
-    ghost lawful = { first_of (Prim.search rules, Prim.grind (arith, Self.row.coded.inj)) };
+    ghost lawful = { λ t. robin_laws t.seats t.first t.fit t.seated };
 
     fn seats(&self) -> u8 {
         self.seats

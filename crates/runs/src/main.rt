@@ -1,4 +1,6 @@
 // Plays the worked runs and the limits through the public calls, and prints what comes beside what should.
+#![tactic(auto)]
+
 mod limits;
 mod refusals;
 mod table;

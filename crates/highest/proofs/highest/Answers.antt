@@ -1,9 +1,9 @@
-use Rattle.std.proofs.Common.{◌≡◌, ◌+◌, ◌<◌, length, sym, ◌∙◌, subst, inl, inr, arith}
+use Rattle.std.proofs.Common.{◌≡◌, ◌+◌, length, sym, ◌∙◌, subst, inl, inr, arith}
 use Rattle.std.specs.List.{IsFirstBest}
 use Rattle.highest.specs.Row.{above}
 use Rattle.highest.proofs.Best.{answered, best_takes, best_keeps, not_greater}
 use Rattle.highest.proofs.highest.Goals as goal
-use Rattle.highest.proofs.highest.Goals.{in-Greater, in-default}
+use Rattle.highest.proofs.highest.Goals.{in-Greater, in_default}
 
 pub loop-place-preserved : goal.loop-place-preserved
 loop-place-preserved g c =
@@ -21,13 +21,13 @@ loop-place-preserved g c =
             (c.loop-place.invariant.1 order) (answered order x y _ w.in-Greater.ensures) in
             inr (subst (IsFirstBest (above order) xs (i + 1)) (sym w.best-is) more),
       )
-      | in-default w ↦ (
+      | in_default w ↦ (
         omega (arith, w.best-is, c.loop-place.invariant.0),
         λ order.
             let more =
             best_keeps order xs i b x y c.loop-place-test.true c.index-row-place.is c.index-row-best.is
             (c.loop-place.invariant.1 order)
-            (answered order x y c.cmp.result c.cmp.ensures ∙ not_greater c.cmp.result w.in-default.not-Greater) in
+            (answered order x y c.cmp.result c.cmp.ensures ∙ not_greater c.cmp.result w.in_default.not-Greater) in
             inr (subst (IsFirstBest (above order) xs (i + 1)) (sym w.best-is) more),
       )
     ]

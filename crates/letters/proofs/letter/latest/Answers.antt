@@ -3,14 +3,14 @@ use Rattle.letters.specs.Searches.{last_below}
 use Rattle.letters.proofs.Searches.{last_none, last_found, last_passed}
 use Rattle.letters.proofs.letter.latest.Goals as goal
 
-pub returns-then-is-from : goal.returns-then-is-from
-returns-then-is-from c =
-    let test = sym c.is-from.ensures ∙ c.if-is-from.true in
+pub returns-then-is_from : goal.returns-then-is_from
+returns-then-is_from c =
+    let test = sym c.is_from.ensures ∙ c.if-is_from.true in
     sym (last_found _ _ c.loop-i.i c.loop-i-test.true test) ∙ sym c.loop-i.invariant
 
 pub loop-i-preserved : goal.loop-i-preserved
 loop-i-preserved c =
-    let test = sym c.is-from.ensures ∙ c.if-is-from.false in
+    let test = sym c.is_from.ensures ∙ c.if-is_from.false in
     c.loop-i.invariant ∙ last_passed _ _ c.loop-i.i c.loop-i-test.true test
 
 pub loop-i-init : goal.loop-i-init

@@ -3,14 +3,14 @@ use Rattle.letters.proofs.Searches.{last_none, last_found, last_passed}
 use Rattle.letters.specs.Searches.{last_below}
 use Rattle.letters.proofs.reports.named.Goals as goal
 
-pub returns-then-decides-with : goal.returns-then-decides-with
-returns-then-decides-with g c =
-    let test = sym c.decides_with.ensures ∙ c.if-decides-with.true in
+pub returns-then-decides_with : goal.returns-then-decides_with
+returns-then-decides_with g c =
+    let test = sym c.decides_with.ensures ∙ c.if-decides_with.true in
     sym (last_found _ _ c.loop-seat.seat c.loop-seat-test.true test) ∙ sym c.loop-seat.invariant
 
 pub loop-seat-preserved : goal.loop-seat-preserved
 loop-seat-preserved g c =
-    let test = sym c.decides_with.ensures ∙ c.if-decides-with.false in
+    let test = sym c.decides_with.ensures ∙ c.if-decides_with.false in
     c.loop-seat.invariant ∙ last_passed _ _ c.loop-seat.seat c.loop-seat-test.true test
 
 pub returns : goal.returns

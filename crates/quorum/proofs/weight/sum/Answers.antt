@@ -1,4 +1,4 @@
-use Rattle.std.proofs.Common.{ap, ◌∙◌, arith, take_all, rules}
+use Rattle.std.proofs.Common.{ap, ◌∙◌, arith, take_all}
 use Rattle.quorum.specs.Seats.{total_weight}
 use Rattle.quorum.specs.Weights.{total_more}
 use Rattle.quorum.proofs.weight.sum.Goals as goal

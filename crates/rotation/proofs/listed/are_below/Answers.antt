@@ -1,5 +1,5 @@
 use Rattle.std.proofs.Common.{sym, arith}
-use Rattle.rotation.specs.Entries.{all_below_from, not_all_below}
+use Rattle.rotation.proofs.Entries.{all_below_from, not_all_below}
 use Rattle.rotation.proofs.listed.are_below.Goals as goal
 
 pub returns-then-seat-n : goal.returns-then-seat-n

@@ -1,4 +1,4 @@
-use Rattle.std.proofs.Common.{◌≡◌, ◌^◌, ◌<◌, T, sym, ◌∙◌, subst, rules}
+use Rattle.std.proofs.Common.{◌^◌, ◌<◌, T, sym, ◌∙◌, subst, rules}
 use Rattle.quorum.specs.Sets.{held_within}
 use Rattle.book.proofs.block.Block.report.Goals as goal
 

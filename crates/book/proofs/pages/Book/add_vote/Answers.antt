@@ -50,9 +50,9 @@ returns c =
     let seat = c.args.seat in
     let k = c.args.block in
     let held : k < length bs = omega (arith, book.blocks.ok.0) in
-    let read = get_or_read bs k c.index-mut.result.now held c.index-mut.ensures.value (genesis 0) in
-    let added = c.with_voters.ensures ∙ ap (λ b. with_seat seat b.voters.bits) c.block.ensures in
-    let back = written_back bs k seat c.with_voters.result.bits c.index-mut.result.now read added in
+    let read = get_or_read bs k c.index_mut.result.now held c.index_mut.ensures.value (genesis 0) in
+    let added = c.with-voters.ensures ∙ ap (λ b. with_seat seat b.voters.bits) c.block.ensures in
+    let back = written_back bs k seat c.with-voters.result.bits c.index_mut.result.now read added in
     record {
       reply = search rules;
       blocks = back;

@@ -1,4 +1,4 @@
-use Rattle.std.proofs.Common.{◌≡◌, ℕ, ◌<◌, ◌≤◌, length, get_or, Some, vec_items, sym, refl, ap, ◌∙◌, inl, inr, arith, rules}
+use Rattle.std.proofs.Common.{ℕ, ◌<◌, ◌≤◌, length, get_or, Some, vec_items, sym, refl, ap, inl, inr, arith, rules}
 use Rattle.std.proofs.lemmas.Bool.{cases_lt}
 use Rattle.std.specs.Cmp.{nat_cmp_total}
 use Rattle.book.specs.Pages.{at}
@@ -8,21 +8,21 @@ use Rattle.book.proofs.pages.Book.highest_view.Goals as goal
 pub loop-b-init : goal.loop-b-init
 loop-b-init c = (refl, λ k h. absurd (omega arith), λ k h. zeros 256 k)
 
-pub returns-in-err-place : goal.returns-in-err-place
-returns-in-err-place c = absurd (omega (arith, c.in-err-place.ensures nat_cmp_total, c.loop-b.invariant.0))
+pub returns-in_err-place : goal.returns-in_err-place
+returns-in_err-place c = absurd (omega (arith, c.in_err-place.ensures nat_cmp_total, c.loop-b.invariant.0))
 
-pub offset-bounds-views-place : goal.offset-bounds-views-place
-offset-bounds-views-place c = let h = (c.in-ok-place.ensures nat_cmp_total).0 in search rules
+pub offset_bounds-views-place : goal.offset_bounds-views-place
+offset_bounds-views-place c = let h = (c.in_ok-place.ensures nat_cmp_total).0 in search rules
 
 pub bounds-views-place : goal.bounds-views-place
-bounds-views-place c = omega (arith, (c.in-ok-place.ensures nat_cmp_total).0, c.loop-b.invariant.0)
+bounds-views-place c = omega (arith, (c.in_ok-place.ensures nat_cmp_total).0, c.loop-b.invariant.0)
 
 pub returns : goal.returns
 returns c =
     let book = c.args.self.now in
     let bs = vec_items book.blocks in
-    let place = c.in-ok-place.place in
-    let top = c.in-ok-place.ensures nat_cmp_total in
+    let place = c.in_ok-place.place in
+    let top = c.in_ok-place.ensures nat_cmp_total in
     let all : length bs ≤ c.loop-b.b = omega (arith, book.blocks.ok.0, c.len-b-end.ensures, c.loop-b-test.false) in
     let few : length bs ≤ 256 = omega (arith, book.blocks.ok.0, book.blocks_fit) in
     let none : (k : ℕ) → k < length bs → (at bs k).view ≤ get_or c.loop-b.views place 0 = λ k h. let read = c.loop-b.invariant.1 k (omega arith) in omega (arith, read, not_above (get_or c.loop-b.views k 0) (get_or c.loop-b.views place 0) (top.1 k 0 (omega (arith, c.loop-b.invariant.0)))) in

@@ -1,4 +1,4 @@
-use Rattle.std.proofs.Common.{◌≡◌, ℕ, min, List, [], ◌∷◌, ◌++◌, vec_items, sym, refl, ap, ◌∙◌, subst, ap₂, arith}
+use Rattle.std.proofs.Common.{◌≡◌, ℕ, min, List, [], ◌∷◌, ◌++◌, vec_items, sym, ap, ◌∙◌, subst, arith}
 use Rattle.quorum.specs.Seats.{everyone}
 use Rattle.book.specs.Known.{Known}
 use Rattle.book.specs.Rules.{WellMade}
@@ -30,64 +30,36 @@ one_block : (n v : ℕ) (xs ys : List Block) → ys ≡ xs ++ first v ∷ [] →
 unfolding first
 one_block n v xs ys e f g = e ∙ ap (λ zs. zs ++ first v ∷ []) f ∙ ap (λ w. first w ∷ []) g
 
-pub invariant-of-result : goal.invariant-of-result
+pub invariant_of-result : goal.invariant_of-result
 unfolding first no_reports
-invariant-of-result c =
-    let none = c.in-ok-letters.ensures in
-    let blocks = c.in-ok-blocks.ensures in
-    let known = subst (λ ls. Known (vec_items c.push-reserved.new.self) ls) (sym none.items) (subst (λ bs. Known bs []) (sym (one_block c.args.n c.everyone.result.bits _ _ c.push-reserved.ensures.items blocks.items c.everyone.ensures)) (known_first (min c.args.n 64))) in (
-      omega (arith, c.push-reserved.ensures.capacity, blocks.capacity),
-      (
-        omega (arith, none.capacity),
-        (
-          omega (arith, c.push-reserved.ensures.len),
-          (
-            omega (arith, c.push-reserved.ensures.len, blocks.len),
-            (
-              omega (arith, none.len),
-              (
-                known.first_view,
-                (
-                  known.views_within,
-                  (
-                    known.parents_before,
-                    (
-                      known.parents_earlier,
-                      (
-                        known.heights_within,
-                        (
-                          known.certificates_known,
-                          (
-                            known.commits_known,
-                            (
-                              known.reports_known,
-                              (
-                                known.letters_known,
-                                (
-                                  known.letters_later,
-                                  tt,
-                                ),
-                              ),
-                            ),
-                          ),
-                        ),
-                      ),
-                    ),
-                  ),
-                ),
-              ),
-            ),
-          ),
-        ),
-      ),
-    )
+invariant_of-result c =
+    let none = c.in_ok-letters.ensures in
+    let blocks = c.in_ok-blocks.ensures in
+    let known = subst (λ ls. Known (vec_items c.push_reserved.new.self) ls) (sym none.items) (subst (λ bs. Known bs []) (sym (one_block c.args.n c.everyone.result.bits _ _ c.push_reserved.ensures.items blocks.items c.everyone.ensures)) (known_first (min c.args.n 64))) in
+    record {
+      blocks_room = omega (arith, c.push_reserved.ensures.capacity, blocks.capacity);
+      letters_room = omega (arith, none.capacity);
+      some = omega (arith, c.push_reserved.ensures.len);
+      blocks_fit = omega (arith, c.push_reserved.ensures.len, blocks.len);
+      letters_fit = omega (arith, none.len);
+      first_view = known.first_view;
+      views_within = known.views_within;
+      parents_before = known.parents_before;
+      parents_earlier = known.parents_earlier;
+      heights_within = known.heights_within;
+      certificates_known = known.certificates_known;
+      commits_known = known.commits_known;
+      reports_known = known.reports_known;
+      letters_known = known.letters_known;
+      letters_later = known.letters_later;
+    }
 
 pub returns : goal.returns
 unfolding first no_reports
 returns c =
     let n = c.args.n in
-    let pages = one_block n c.everyone.result.bits _ _ c.push-reserved.ensures.items c.in-ok-blocks.ensures.items c.everyone.ensures in
+    let pages = one_block n c.everyone.result.bits _ _ c.push_reserved.ensures.items c.in_ok-blocks.ensures.items c.everyone.ensures in
     record {
-      pages = (pages, c.in-ok-letters.ensures.items);
+      pages = (pages, c.in_ok-letters.ensures.items);
       lawful = λ d. subst (WellMade d) (sym pages) (well_first d (min n 64));
     }

@@ -8,7 +8,7 @@ returns-then-k-count c =
     let book = c.args.self.now in
     let bs = vec_items book.blocks in
     let held : c.args.b < length bs = omega (arith, c.if-b-len.false, c.len.ensures, book.blocks.ok.0) in
-    sym (told_none bs c.args.b c.args.k held (omega (arith, c.if-k-count.true, c.chain-length-count.ensures)))
+    sym (told_none bs c.args.b c.args.k held (omega (arith, c.if-k-count.true, c.chain_length-count.ensures)))
 
 pub returns : goal.returns
 returns c =
@@ -16,7 +16,7 @@ returns c =
     let bs = vec_items book.blocks in
     let b = c.args.b in
     let k = c.args.k in
-    let count = c.chain-length-count.ensures in
+    let count = c.chain_length-count.ensures in
     let held : b < length bs = omega (arith, c.if-b-len.false, c.len.ensures, book.blocks.ok.0) in
     ap Some (c.below.ensures ∙ ap (λ n. get_or (chain bs b) (n - 1 - k) 0) count)
     ∙ sym (told_some bs b k held (omega (arith, c.if-k-count.false, count)))

@@ -1,4 +1,4 @@
-use Rattle.std.proofs.Common.{◌≡◌, min, not, [], ◌∷◌, vec_items, sym, refl, ap, ◌∙◌, subst, arith}
+use Rattle.std.proofs.Common.{◌≡◌, min, not, [], ◌∷◌, vec_items, sym, refl, ap, ◌∙◌, arith}
 use Rattle.std.proofs.lemmas.Bool.{eq-eqb}
 use Rattle.quorum.specs.Seats.{within}
 use Rattle.book.specs.Pages.{genesis}
@@ -19,7 +19,7 @@ returns g c =
     ap (λ b. vec_items b.blocks) c.new-2.ensures.book ∙ c.in-Ok.ensures.pages.0 ∙ ap (λ k. genesis k ∷ []) count in
     let letters = ap (λ b. vec_items b.letters) c.new-2.ensures.book ∙ c.in-Ok.ensures.pages.1 in
     let is = state_fresh n quorum leads c.args.open_set.bits inner blocks letters c.new-2.ensures.seats (ap (λ q. q.bits) c.new-2.ensures.open_set) in
-    let seated = ap (λ k. within k c.args.open_set.bits) (sym c.seats-n.ensures) ∙ sym c.is-within.ensures ∙ c.if-not-is-within.false in
+    let seated = ap (λ k. within k c.args.open_set.bits) (sym c.seats-n.ensures) ∙ sym c.is_within.ensures ∙ c.if-not-is_within.false in
     record {
       opening = ((ap not (eq-eqb n _ same), (ap not seated, tt)), (refl, refl, is));
       safe = safe_fresh rule rotation same c.args.open_set.bits _ is;

@@ -1,5 +1,5 @@
 -- A set is below 2 ^ n exactly where its digits from n on are none.
-use Rattle.std.proofs.Common.{◌/◌, ◌^◌, ◌<◌, sym, ap, ◌∙◌, lt_of_lt_of_le, pow_mono, rules}
+use Rattle.std.proofs.Common.{◌^◌, ◌<◌, sym, ◌∙◌, lt_of_lt_of_le, pow_mono, rules}
 use Rattle.std.proofs.lemmas.Bool.{le-leb, lt-ltb}
 use Rattle.quorum.specs.Sets.{no_upper_digits}
 use Rattle.quorum.proofs.seats.SeatSet.is_within.Goals as goal

@@ -1,14 +1,14 @@
 -- What was looked at up to the answer, or in one whole pass, is not led by the seat.
-use Rattle.std.proofs.Common.{◌≡◌, ◌+◌, ◌-◌, ◌%◌, ◌<◌, ◌≤◌, length, vec_items, sym, ap, ◌∙◌, inl, inr, mod-lt, arith}
+use Rattle.std.proofs.Common.{◌≡◌, ◌+◌, ◌-◌, ◌%◌, ◌≤◌, length, vec_items, sym, ap, ◌∙◌, inl, inr, mod-lt, arith}
 use Rattle.std.proofs.lemmas.Bool.{cases_lt}
 use Rattle.rotation.specs.Listing.{list_leads}
-use Rattle.rotation.specs.Entries.{repeats}
+use Rattle.rotation.proofs.Entries.{repeats}
 use Rattle.rotation.proofs.Leaders.{view_passed}
 use Rattle.rotation.proofs.listed.ListedRotation.next_turn.Goals as goal
 
 pub returns-then-entry-seat : goal.returns-then-entry-seat
 returns-then-entry-seat c = (
-  view_passed c.args.from (sym c.is-view.ensures ∙ c.if-not-is-view.false),
+  view_passed c.args.from (sym c.is_view.ensures ∙ c.if-not-is_view.false),
   c.if-seat-self.false,
   record {
     not_before = c.loop-view.auto.view;

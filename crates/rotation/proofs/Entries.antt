@@ -1,20 +1,14 @@
 -- The entries of a list of seats, and the list repeated.
 -- Assumes nothing.
-use Rattle.std.specs.Prelude.{◌≡◌, ℕ, zero, suc, ◌+◌, ◌-◌, ◌%◌, ◌<◌, ◌≤◌, Bool, true, false, ◌&&◌, List, [], ◌∷◌, length, nat_lt, slice_index, refl}
-use Rattle.std.proofs.Common.{sym, ap, ap₂, ◌∙◌, arith}
+use Rattle.std.proofs.Common.{◌≡◌, ℕ, zero, suc, ◌+◌, ◌-◌, ◌%◌, ◌<◌, ◌≤◌, true, false, ◌&&◌, List, [], ◌∷◌, length, nat_lt, slice_index, refl, sym, ap, ap₂, ◌∙◌, arith}
 use Rattle.std.proofs.Math.Nat.{add-mod-mod}
-use Rattle.std.proofs.lemmas.Bool.{and_parts, and_left, and_right, ltb-true, lt-ltb, le-ltb}
+use Rattle.std.proofs.lemmas.Bool.{and_left, and_right, lt-ltb, le-ltb}
 use Rattle.rotation.specs.Listing.{all_below, list_leads}
 
 pub all_below_from : (n : ℕ) (ss : List ℕ) → ((k : ℕ) → k < length ss → slice_index ss k < n) → all_below n ss ≡ true
 all_below_from n [] f = refl
 all_below_from n (s ∷ ss) f =
     ap₂ ◌&&◌ (lt-ltb s n (f 0 (omega arith))) (all_below_from n ss (λ k h. f (suc k) (omega arith)))
-
-pub all_below_at : (n : ℕ) (ss : List ℕ) → all_below n ss ≡ true → (k : ℕ) → k < length ss → slice_index ss k < n
-all_below_at n [] e k h = absurd (omega arith)
-all_below_at n (s ∷ ss) e zero h = ltb-true s n (and_parts (nat_lt s n) (all_below n ss) e).0
-all_below_at n (s ∷ ss) e (suc k) h = all_below_at n ss (and_parts (nat_lt s n) (all_below n ss) e).1 k (omega arith)
 
 pub not_all_below : (n : ℕ) (ss : List ℕ) (k : ℕ) → k < length ss → n ≤ slice_index ss k → all_below n ss ≡ false
 not_all_below n [] k h g = absurd (omega arith)
