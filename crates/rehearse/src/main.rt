@@ -6,6 +6,7 @@ use records::rehearsal::Rehearsal;
 use refusal::Refusal;
 use std::alloc::Global;
 use std::io::{BufWriter, Read, Write};
+use std::process::ExitCode;
 use std::{fmt, io};
 
 // At most so many records are read, and so many bytes.
@@ -62,12 +63,12 @@ fn run(rt: &HostRuntime) -> Result<(), Fault> {
     Ok(())
 }
 
-fn main(rt: HostRuntime) -> Result<(), Fault> {
+fn main(rt: HostRuntime) -> io::Result<ExitCode> {
     match run(&rt) {
-        Ok(()) => Ok(()),
+        Ok(()) => Ok(ExitCode::SUCCESS),
         Err(fault) => {
             eprintln!(rt; "rehearse: {fault}")?;
-            Err(fault)
+            Ok(ExitCode::FAILURE)
         }
     }
 }

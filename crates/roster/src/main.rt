@@ -9,6 +9,7 @@ use rotation::listed::Listed;
 use rotation::robin::RoundRobin;
 use rotation::turns::{LAST_VIEW, Rotation, is_view};
 use std::alloc::{AllocError, AllocFailed, Global};
+use std::process::ExitCode;
 use std::{env, fmt, io};
 
 const USAGE: &str = "usage: roster RULE ROTATION VIEWS [FROM]
@@ -257,12 +258,12 @@ fn run(rt: &HostRuntime) -> Result<(), Fault> {
     answer(rt, words.as_slice())
 }
 
-fn main(rt: HostRuntime) -> Result<(), Fault> {
+fn main(rt: HostRuntime) -> io::Result<ExitCode> {
     match run(&rt) {
-        Ok(()) => Ok(()),
+        Ok(()) => Ok(ExitCode::SUCCESS),
         Err(fault) => {
             eprintln!(rt; "roster: {fault}")?;
-            Err(fault)
+            Ok(ExitCode::FAILURE)
         }
     }
 }
