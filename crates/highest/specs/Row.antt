@@ -1,11 +1,10 @@
--- The highest of a row, under a total order.
+-- The highest of a row, by the answers of an order: R y x is Less where x ranks above y. Each `Ord` type's order is total.
 -- Assumes nothing.
 use Rattle.std.specs.Prelude.{◌≡◌, ℕ, ◌<◌, Bool, true, false, List, length, Some, None, Option, slice_index_or}
 use Rattle.std.specs.declared.cmp.Ordering.{Ordering}
-use Rattle.std.specs.Cmp.{IsTotalOrder}
 use Rattle.std.specs.Ordering.{is_lt}
 
-module _ {X : Type 0} {R : X → X → Ordering} (order : IsTotalOrder R) where
+module _ {X : Type 0} (R : X → X → Ordering) where
   -- whether x ranks above y
   abbrev pub above : X → X → Bool
   above x y = is_lt (R y x)

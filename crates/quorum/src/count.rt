@@ -44,7 +44,7 @@ impl CountRule {
 impl QuorumRule for CountRule {
     const MOST: u8 = 64;
 
-    ghost most = { 64 };
+    ghost MOST = { 64 };
 
     ghost seats = { λ c. seats_for c.faults };
 
@@ -53,10 +53,6 @@ impl QuorumRule for CountRule {
     ghost tolerated = { λ c. count_tolerated c.faults };
 
     ghost lawful = { λ rule. count_laws rule.faults rule.few };
-
-    fn most_seats() -> u8 {
-        Self::MOST
-    }
 
     fn seats(&self) -> u8 {
         3 * self.faults + 1

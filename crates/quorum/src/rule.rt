@@ -10,7 +10,7 @@ pub trait QuorumRule {
     // the most seats that this kind of rule is made for
     const MOST: u8;
 
-    ghost most: { ℕ };
+    ghost MOST: { ℕ };
 
     ghost seats: { Self → ℕ };
 
@@ -18,9 +18,12 @@ pub trait QuorumRule {
 
     ghost tolerated: { Self → ℕ → Bool };
 
-    // The associated constant, as a value that a contract can speak of.
+    // The associated constant, for those who hold a rule of a kind that they do not know.
     fn most_seats() -> u8
-        ensures { result ≡ most };
+        ensures { result ≡ MOST }
+    {
+        Self::MOST
+    }
 
     fn seats(&self) -> u8
         ensures { result ≡ seats self.now };
@@ -31,5 +34,5 @@ pub trait QuorumRule {
     fn is_tolerated(&self, set: SeatSet) -> bool
         ensures { result ≡ tolerated self.now set.bits };
 
-    ghost lawful: { (rule : Self) → QuorumLaws most (seats rule) (quorum rule) (tolerated rule) };
+    ghost lawful: { (rule : Self) → QuorumLaws MOST (seats rule) (quorum rule) (tolerated rule) };
 }

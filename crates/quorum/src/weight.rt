@@ -87,7 +87,7 @@ impl WeightRule {
 impl QuorumRule for WeightRule {
     const MOST: u8 = 32;
 
-    ghost most = { 32 };
+    ghost MOST = { 32 };
 
     ghost seats = { λ w. length w.weights.items };
 
@@ -98,10 +98,6 @@ impl QuorumRule for WeightRule {
     ghost lawful = { λ rule.
         weight_laws rule.weights.items (subst (λ n. n ≤ 32) rule.weights.ok.0 rule.few)
         (subst (λ x. 0 < x) rule.summed rule.heavy) };
-
-    fn most_seats() -> u8 {
-        Self::MOST
-    }
 
     fn seats(&self) -> u8 {
         self.weights.len() as u8

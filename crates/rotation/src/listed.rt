@@ -23,12 +23,7 @@ pub struct Listed {
 fn are_below(order: &[u8], n: u8) -> bool
     ensures { result ≡ all_below n order.now }
 {
-    for seat in order {
-        if *seat >= n {
-            return false;
-        }
-    }
-    true
+    order.iter().all(|seat| *seat < n)
 }
 
 impl Listed {
@@ -78,11 +73,6 @@ impl Rotation for Listed {
             return None;
         }
         let end = (from + self.order.len() as u32).min(LAST_VIEW + 1);
-        for view in from..end {
-            if self.entry(view) == seat {
-                return Some(view);
-            }
-        }
-        None
+        (from..end).find(|view| self.entry(*view) == seat)
     }
 }

@@ -9,7 +9,7 @@ pub const LAST_VIEW: u32 = 1_000_000;
 pub fn is_view(view: u32) -> bool
     ensures { result ≡ is_view view }
 {
-    view >= 1 && view <= LAST_VIEW
+    (1..=LAST_VIEW).contains(&view)
 }
 
 // Anything that tells its number of seats, 1 to 64, and for each view the seat that leads it. Asking changes nothing,

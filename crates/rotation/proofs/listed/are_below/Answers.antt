@@ -1,10 +1,8 @@
-use Rattle.std.proofs.Common.{sym, arith}
-use Rattle.rotation.proofs.Entries.{all_below_from, not_all_below}
+use Rattle.std.proofs.Common.{nat_lt, rules, tests}
+use Rattle.std.proofs.lemmas.Iterator.{YieldsList-from_slice}
+use Rattle.std.proofs.lemmas.Iterator.Search.{all_from_yields_List}
 use Rattle.rotation.proofs.listed.are_below.Goals as goal
 
-pub returns-then-seat-n : goal.returns-then-seat-n
-returns-then-seat-n c =
-    sym (not_all_below c.args.n c.args.order.now c.loop-seat.seat-index c.loop-seat-test.true c.if-seat-n.true)
-
 pub returns : goal.returns
-returns c = sym (all_below_from c.args.n c.args.order.now (λ k h. c.loop-seat.invariant k (omega (arith, c.loop-seat-test.false))))
+returns c =
+    all_from_yields_List (λ s. nat_lt s c.args.n) _ _ _ c.all.ensures.ran (YieldsList-from_slice c.args.order.now cc) (λ x b q k. search (rules, tests))
