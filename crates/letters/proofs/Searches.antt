@@ -1,6 +1,17 @@
 -- Searches over places, one place on and read back.
 -- Assumes nothing.
-use Rattle.std.proofs.Common.{◌≡◌, ℕ, zero, suc, ◌+◌, ◌-◌, ◌^◌, ◌<◌, Bool, true, false, cond, ◌||◌, Some, None, sym, refl, ap, ◌∙◌, ap₂, inl, inr, add-one, arith, below_more}
+use Rattle.std.proofs.Common.{◌≡◌, ℕ, zero, suc, ◌+◌, ◌-◌, ◌^◌, ◌<◌, ◌≤◌, Bool, true, false, cond, ◌||◌, List, [], ◌∷◌, length, take, reverse, find, option_map, slice_index_or, Some, None, Option, sym, refl, ap, ◌∙◌, ap₂, inl, inr, add-one, zero-add, subst, arith, below_more, take_all}
+use Rattle.std.specs.List.{list_any, range_with_len}
+use Rattle.std.specs.declared.iter.Rev.{Rev}
+use Rattle.std.specs.declared.ops.Range.{Range}
+use Rattle.std.specs.Iterator.Adapters.{rev_source, rev_steps}
+use Rattle.std.proofs.iter.runs.Sources.{nat_range_steps_back}
+use Rattle.std.proofs.lemmas.Iterator.{YieldsList}
+use Rattle.std.proofs.lemmas.Iterator.Splits.{YieldsList-from_shown_while}
+use Rattle.std.proofs.Math.Bool.{or_comm}
+use Rattle.std.proofs.lemmas.List.{take_more, reverse-append}
+use Rattle.std.proofs.lemmas.List.Folds.{list_any_more}
+use Rattle.std.proofs.lemmas.List.FromFn.{length-range_with_len, get_or-range_with_len}
 use lib.Bits.{or_zero_r}
 use Rattle.std.proofs.lemmas.Bool.{or_left, or_right, or_from, or_cases, both_ways, cases_Bool, cases_eq, lt-ltb}
 use Rattle.quorum.specs.Seats.{union, with_seat}
@@ -129,3 +140,57 @@ last_nowhere p f (suc n) z k h t =
             | inr other ↦ last_nowhere p f n (ap (λ b. cond b (Some (f n)) (last_below p f n)) (sym below) ∙ z) k (omega arith) t
           ]
     ]
+
+option_map_cond : {X : Type 0} (f : X → ℕ) (b : Bool) (x : X) (o : Option X) → cond b (Some (f x)) (option_map f o) ≡ option_map f (cond b (Some x) o)
+option_map_cond f true x o = refl
+option_map_cond f false x o = refl
+
+-- the search of a list from its last thing down
+module _ {X : Type 0} (p : X → Bool) (f : X → ℕ) (xs : List X) (d : X) where
+  last_in : (n : ℕ) → n ≤ length xs → last_below (λ i. p (slice_index_or xs i d)) (λ i. f (slice_index_or xs i d)) n ≡ option_map f (find p (reverse (take n xs)))
+  unfolding last_below
+  last_in zero h = refl
+  last_in (suc n) h =
+      let x = slice_index_or xs n d in
+      let rest = ap (λ o. cond (p x) (Some (f x)) o) (last_in n (omega arith)) in
+      let last = ap (λ ys. option_map f (find p (reverse ys))) (ap (λ k. take k xs) (sym (add-one n)) ∙ take_more xs n d (omega arith)) in
+      let turned = ap (λ ys. option_map f (find p ys)) (reverse-append (take n xs) (x ∷ [])) in
+      rest ∙ option_map_cond f (p x) x (find p (reverse (take n xs))) ∙ sym (last ∙ turned)
+
+  pub last_is_find : last_below (λ i. p (slice_index_or xs i d)) (λ i. f (slice_index_or xs i d)) (length xs) ≡ option_map f (find p (reverse xs))
+  last_is_find = last_in (length xs) (omega arith) ∙ ap (λ ys. option_map f (find p (reverse ys))) (take_all (length xs) xs (omega arith))
+
+-- a chain over a range passes a test somewhere where the search of the places does
+module _ (p : ℕ → Bool) (N : ℕ) where
+  any_in : (n : ℕ) → n ≤ N → list_any p (take n (range_with_len 0 N)) ≡ any_below p n
+  unfolding any_below
+  any_in zero h = refl
+  any_in (suc n) h =
+      ap (λ k. list_any p (take k (range_with_len 0 N))) (sym (add-one n))
+      ∙ list_any_more p (range_with_len 0 N) n 0 (omega (arith, length-range_with_len 0 N))
+      ∙ ap₂ ◌||◌ (any_in n (omega arith)) (ap p (get_or-range_with_len 0 N n 0 h ∙ zero-add n)) ∙ or_comm (any_below p n) (p n)
+
+  pub any_in_range : list_any p (range_with_len 0 N) ≡ any_below p N
+  any_in_range =
+      ap (list_any p) (sym (take_all N (range_with_len 0 N) (omega (arith, length-range_with_len 0 N)))) ∙ any_in N (omega arith)
+
+-- a range gone through from its last number down
+pub countdown : ℕ → List ℕ
+countdown zero = []
+countdown (suc n) = n ∷ countdown n
+
+pub YieldsList-from_rev_range : (n : ℕ) {s : Rev (Range ℕ)} → rev_source s ≡ record { start = 0; end = n } → YieldsList (rev_steps nat_range_steps_back) (λ x. x) s (countdown n)
+unfolding countdown
+YieldsList-from_rev_range n {s} e =
+    subst (λ (k : Range ℕ). YieldsList (rev_steps nat_range_steps_back) (λ x. x) s (countdown k.end)) e
+    (YieldsList-from_shown_while (rev_steps nat_range_steps_back) (λ x. x) (λ t. countdown (rev_source t).end) (λ t. (rev_source t).start ≡ 0)
+    (λ t u h k. let none : (rev_source t).end ≡ 0 = omega (arith, k.1.0, h) in ap (λ m. length (countdown m)) none)
+    (λ t x u h k.
+    let turn : (rev_source t).end ≡ suc (rev_source u).end = k.1.2 ∙ add-one (rev_source u).end in
+    (k.0 ∙ h, ap countdown turn ∙ ap (λ y. y ∷ countdown (rev_source u).end) (sym k.1.1)))
+    s (ap (λ (k : Range ℕ). k.start) e))
+
+pub last_is_find_down : (p : ℕ → Bool) (f : ℕ → ℕ) (n : ℕ) → last_below p f n ≡ option_map f (find p (countdown n))
+unfolding last_below countdown
+last_is_find_down p f zero = refl
+last_is_find_down p f (suc n) = ap (cond (p n) (Some (f n))) (last_is_find_down p f n) ∙ option_map_cond f (p n) n (find p (countdown n))

@@ -23,11 +23,9 @@ impl Letter {
 pub fn latest(letters: &[Letter], seat: u8, view: u32) -> Option<u32>
     ensures { result ≡ latest letters.now seat view }
 {
-    for i in (0..letters.len()).rev() {
-        let letter = &letters[i];
-        if letter.is_from(seat, view) {
-            return Some(letter.block);
-        }
-    }
-    None
+    letters
+        .iter()
+        .rev()
+        .find(|letter| letter.is_from(seat, view))
+        .map(|letter| letter.block)
 }

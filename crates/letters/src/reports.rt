@@ -1,5 +1,5 @@
 // Reports: what the seats that a leader heard say by their latest letters.
-ghost use Rattle.std.specs.Prelude.{◌≡◌, ◌<◌, if◌then◌else◌, Ok, Err};
+ghost use Rattle.std.specs.Prelude.{◌≡◌, if◌then◌else◌, Ok, Err};
 ghost use Rattle.refusal.specs.declared.Refusal.TheVariants.{HeardSeatSilent};
 ghost use Rattle.letters.specs.Letters.{no_letter, report_of, reports_of, silent};
 ghost use Rattle.letters.specs.Named.{reports_it, namers, decides_with, named};
@@ -23,66 +23,66 @@ fn report_of(letters: &[Letter], heard: SeatSet, view: u32, seat: u8) -> Result<
     Ok(block)
 }
 
-// What the heard seats report, by seat.
-pub fn reports(letters: &[Letter], heard: SeatSet, view: u32) -> Result<[u32; 64], Refusal>
-    ensures { result ≡ (if silent letters.now heard.bits view then Err HeardSeatSilent else Ok (reports_of letters.now heard.bits view)) }
-{
-    let mut reports = [0; 64];
-    for seat in 0..64 {
-        reports[seat as usize] = report_of(letters, heard, view, seat)?;
-    }
-    Ok(reports)
+// The heard seats, and the block that each of them reports, by seat.
+#[derive(Clone, Copy)]
+pub struct Reports {
+    pub heard: SeatSet,
+    pub blocks: [u32; 64],
 }
 
-// Whether a seat is heard and reports exactly this block.
-fn reports_it(reports: &[u32; 64], heard: SeatSet, block: u32, seat: u8) -> bool
-    requires { seat < 64 }
-    ensures { result ≡ reports_it reports.now heard.bits block seat }
-{
-    heard.holds(seat) && reports[seat as usize] == block
-}
-
-// Whether a heard seat reports this block.
-pub fn is_reported(reports: &[u32; 64], heard: SeatSet, block: u32) -> bool
-    ensures { result ≡ any_below (reports_it reports.now heard.bits block) 64 }
-{
-    for seat in 0..64 {
-        if reports_it(reports, heard, block, seat) {
-            return true;
+impl Reports {
+    // What the heard seats report to a block of a view.
+    pub fn gather(letters: &[Letter], heard: SeatSet, view: u32) -> Result<Reports, Refusal>
+        ensures { result ≡ (if silent letters.now heard.bits view then Err HeardSeatSilent else Ok (record { heard = heard; blocks = reports_of letters.now heard.bits view })) }
+    {
+        let mut blocks = [0; 64];
+        for (seat, block) in blocks.iter_mut().enumerate() {
+            *block = report_of(letters, heard, view, seat as u8)?;
         }
+        Ok(Reports { heard, blocks })
     }
-    false
-}
 
-// The heard seats that report exactly this block.
-fn namers(reports: &[u32; 64], heard: SeatSet, block: u32) -> SeatSet
-    ensures { result.bits ≡ namers reports.now heard.bits block }
-{
-    let mut set = SeatSet { bits: 0 };
-    for seat in 0..64 {
-        if reports_it(reports, heard, block, seat) {
-            set = set.with(seat);
+    // Whether a seat is heard and reports exactly this block.
+    fn tells(&self, seat: u8, block: u32) -> bool
+        ensures { result ≡ reports_it self.now.blocks self.now.heard.bits block seat }
+    {
+        self.heard.holds(seat) && self.blocks[seat as usize] == block
+    }
+
+    // Whether a heard seat reports this block.
+    pub fn contain(&self, block: u32) -> bool
+        ensures { result ≡ any_below (reports_it self.now.blocks self.now.heard.bits block) 64 }
+    {
+        (0..64).any(|seat| self.tells(seat, block))
+    }
+
+    // The heard seats that report exactly this block.
+    fn namers(&self, block: u32) -> SeatSet
+        ensures { result.bits ≡ namers self.now.blocks self.now.heard.bits block }
+    {
+        let mut set = SeatSet { bits: 0 };
+        for seat in 0..64 {
+            if self.tells(seat, block) {
+                set = set.with(seat);
+            }
         }
+        set
     }
-    set
-}
 
-// Whether a seat is heard, and the seats that report the same block as it are a quorum.
-fn decides_with<R: QuorumRule>(rule: &R, reports: &[u32; 64], heard: SeatSet, seat: u8) -> bool
-    requires { seat < 64 }
-    ensures { result ≡ decides_with (R.QuorumRule.quorum rule.now) reports.now heard.bits seat }
-{
-    heard.holds(seat) && rule.is_quorum(namers(reports, heard, reports[seat as usize]))
-}
-
-// The block that a quorum of the reports names.
-pub fn named<R: QuorumRule>(rule: &R, reports: &[u32; 64], heard: SeatSet) -> Option<u32>
-    ensures { result ≡ named (R.QuorumRule.quorum rule.now) reports.now heard.bits }
-{
-    for seat in (0..64).rev() {
-        if decides_with(rule, reports, heard, seat) {
-            return Some(reports[seat as usize]);
-        }
+    // Whether a seat is heard, and the seats that report the same block as it are a quorum.
+    fn decides_with<R: QuorumRule>(&self, rule: &R, seat: u8) -> bool
+        ensures { result ≡ decides_with (R.QuorumRule.quorum rule.now) self.now.blocks self.now.heard.bits seat }
+    {
+        self.heard.holds(seat) && rule.is_quorum(self.namers(self.blocks[seat as usize]))
     }
-    None
+
+    // The block that a quorum of the reports names.
+    pub fn named<R: QuorumRule>(&self, rule: &R) -> Option<u32>
+        ensures { result ≡ named (R.QuorumRule.quorum rule.now) self.now.blocks self.now.heard.bits }
+    {
+        (0..64)
+            .rev()
+            .find(|seat| self.decides_with(rule, *seat))
+            .map(|seat| self.blocks[seat as usize])
+    }
 }

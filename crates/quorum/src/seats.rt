@@ -1,5 +1,5 @@
 // Sets of seats.
-ghost use Rattle.std.specs.Prelude.{◌≡◌, min};
+ghost use Rattle.std.specs.Prelude.{◌≡◌, ◌<◌, min, IsTrue};
 ghost use Rattle.quorum.specs.Seats.{held, within, with_seat, subset, union, everyone, everyone_but, how_many};
 
 // A set of the seats 0 to 63: seat s is the bit worth 2^s.
@@ -19,9 +19,10 @@ impl SeatSet {
         SeatSet { bits: (1 << n) - 1 }
     }
 
-    // Whether the set holds a seat.
+    // Whether the set holds a seat; it holds none past 63.
     pub fn holds(self, seat: u8) -> bool
-        ensures { result ≡ held seat self.bits }
+        ensures told { result ≡ held seat self.bits }
+        ensures below { IsTrue result → seat < 64 }
     {
         seat < 64 && (self.bits >> seat) & 1 == 1
     }

@@ -1,22 +1,15 @@
-use Rattle.std.proofs.Common.{◌≡◌, sym, refl, ap, ◌∙◌, arith}
-use Rattle.letters.specs.Searches.{last_below}
-use Rattle.letters.proofs.Searches.{last_none, last_found, last_passed}
+use Rattle.std.proofs.Common.{◌≡◌, ◌∙◌, ap, sym, option_map, rules, tests}
+use Rattle.std.proofs.lemmas.Iterator.Adapters.{YieldsList-from_rev_slice}
+use Rattle.std.proofs.lemmas.Iterator.Search.{find_from_yields_List}
+use Rattle.letters.specs.Letters.{written}
+use Rattle.letters.specs.declared.letter.Letter.{Letter}
+use Rattle.letters.proofs.Searches.{last_is_find}
 use Rattle.letters.proofs.letter.latest.Goals as goal
-
-pub returns-then-is_from : goal.returns-then-is_from
-returns-then-is_from c =
-    let test = sym c.is_from.ensures ∙ c.if-is_from.true in
-    sym (last_found _ _ c.loop-i.i c.loop-i-test.true test) ∙ sym c.loop-i.invariant
-
-pub loop-i-preserved : goal.loop-i-preserved
-loop-i-preserved c =
-    let test = sym c.is_from.ensures ∙ c.if-is_from.false in
-    c.loop-i.invariant ∙ last_passed _ _ c.loop-i.i c.loop-i-test.true test
-
-pub loop-i-init : goal.loop-i-init
-loop-i-init c = refl
 
 pub returns : goal.returns
 returns c =
-    let none : c.loop-i.i ≡ 0 = omega (arith, c.loop-i-test.false) in
-    sym (c.loop-i.invariant ∙ ap (last_below _ _) none ∙ last_none _ _)
+    let ls = c.args.letters.now in
+    let block : Letter → _ = λ l. l.block in
+    let told : c.map.result ≡ option_map block (option_map (λ l. l.now) c.find.result) = search rules in
+    let found = find_from_yields_List (λ l. written l c.args.seat c.args.view) _ _ c.find.result c.find.ensures.ran (YieldsList-from_rev_slice ls cc) (λ x b q k. search (rules, tests)) in
+    told ∙ ap (option_map block) found ∙ sym (last_is_find (λ l. written l c.args.seat c.args.view) block ls _)

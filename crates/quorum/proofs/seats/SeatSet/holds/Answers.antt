@@ -5,11 +5,11 @@ use Rattle.std.proofs.lemmas.Bool.{le-ltb}
 use Rattle.quorum.specs.Sets.{held_beyond}
 use Rattle.quorum.proofs.seats.SeatSet.holds.Goals as goal
 
-pub returns-then-seat-lt64 : goal.returns-then-seat-lt64
-returns-then-seat-lt64 c = ap (λ x. eqb x 1) (and_mask (c.args.self.bits / 2 ^ c.args.seat) 1)
+pub returns-then-seat-lt64-clause-told : goal.returns-then-seat-lt64-clause-told
+returns-then-seat-lt64-clause-told c = ap (λ x. eqb x 1) (and_mask (c.args.self.bits / 2 ^ c.args.seat) 1)
 
-pub returns-else-seat-lt64 : goal.returns-else-seat-lt64
-returns-else-seat-lt64 c =
+pub returns-else-seat-lt64-clause-told : goal.returns-else-seat-lt64-clause-told
+returns-else-seat-lt64-clause-told c =
     let fits : c.args.self.bits < 2 ^ 64 = search rules in
     le-ltb _ _ c.if-seat-lt64.false
     ∙ sym (held_beyond c.args.seat c.args.self.bits (lt_of_lt_of_le fits (pow_mono c.if-seat-lt64.false)))

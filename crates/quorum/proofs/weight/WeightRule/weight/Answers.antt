@@ -13,11 +13,11 @@ loop-seat-preserved c =
     let read = ap (λ xs. get_or xs seat 0) c.deref-weight-items.ensures.value in
     elim c.if-holds.branch [
       | then-holds w ↦
-          let is = sym c.holds.ensures ∙ w.if-holds.true in
+          let is = sym c.holds.ensures.told ∙ w.if-holds.true in
           let added = ap (λ b. cond b (get_or ws seat 0) 0) is in
           (omega (arith, w.sum-is, more, added, read, w.from-sum.ensures), omega (arith, w.sum-is))
       | else-holds w ↦
-          let is = sym c.holds.ensures ∙ w.if-holds.false in
+          let is = sym c.holds.ensures.told ∙ w.if-holds.false in
           let added = ap (λ b. cond b (get_or ws seat 0) 0) is in
           (omega (arith, w.sum-is, more, added), omega (arith, w.sum-is))
     ]
