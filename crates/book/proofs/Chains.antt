@@ -1,7 +1,8 @@
 -- Chains as lists: one step down, and what lies off a chain.
 -- Assumes nothing.
-use Rattle.std.proofs.Common.{◌≡◌, ℕ, zero, suc, ◌<◌, ◌≤◌, true, false, cond, ◌||◌, eqb, List, [], ◌∷◌, length, sym, refl, ap, ◌∙◌, ap₂, inl, inr, arith}
-use Rattle.std.proofs.lemmas.Bool.{both_ways, eq-eqb, ne_eqb, cases_eq, cases_lt}
+use Rattle.std.proofs.Common.{◌≡◌, ℕ, zero, suc, ◌<◌, ◌≤◌, Bool, true, false, cond, ◌||◌, ◌⊎◌, eqb, leb, find, List, [], ◌∷◌, length, Some, None, Option, sym, refl, ap, ◌∙◌, ap₂, inl, inr, arith}
+use Rattle.std.proofs.lemmas.Bool.{both_ways, eq-eqb, ne_eqb, cases_eq, cases_lt, le-leb, lt-leb}
+use Rattle.std.specs.Option.{option_eq, option_map_or}
 use Rattle.book.specs.declared.block.Block.{Block}
 use Rattle.book.specs.Known.{FirstView, ParentsBefore}
 use Rattle.book.specs.Pages.{at, chain_in, chain, among, stands}
@@ -35,6 +36,10 @@ module _ (bs : List Block) (before : ParentsBefore bs) where
       ap (λ t. suc b ∷ cond t [] (chain_in bs b (at bs (suc b)).parent)) more
       ∙ ap (λ xs. suc b ∷ xs) (enough_steps b (at bs (suc b)).parent (at bs (suc b)).parent (omega arith) (omega arith) (omega arith))
 
+  -- a block that is not the first, and what is left of its chain below it
+  pub left_below : (b : ℕ) (n : Option ℕ) → 0 < b → b < length bs → n ≡ Some (at bs b).parent → chain bs b ≡ b ∷ option_map_or (chain bs) n []
+  left_below b n p h e = chain_step b p h ∙ ap (λ o. b ∷ option_map_or (chain bs) o []) (sym e)
+
   pub stands_step : (b c : ℕ) → 0 < b → b < length bs → stands bs b c ≡ (eqb c b || stands bs (at bs b).parent c)
   stands_step b c p h = ap (among c) (chain_step b p h)
 
@@ -61,6 +66,11 @@ module _ (bs : List Block) (before : ParentsBefore bs) where
   stands_within b c h e =
       elim (cases_lt b c) [ inl above ↦ absurd (both_ways (stands bs b c) (stands_above b c h above) e) | inr within ↦ within ]
 
+-- below the first block nothing is left
+pub left_last : (bs : List Block) (b : ℕ) (n : Option ℕ) → b ≡ 0 → n ≡ None → chain bs b ≡ b ∷ option_map_or (chain bs) n []
+left_last bs zero n z e = ap (λ o. 0 ∷ option_map_or (chain bs) o []) (sym e)
+left_last bs (suc b) n z e = absurd (omega arith)
+
 pub stands_self : (bs : List Block) (b : ℕ) → stands bs b b ≡ true
 stands_self bs zero = refl
 stands_self bs (suc b) =
@@ -70,3 +80,63 @@ stands_self bs (suc b) =
 pub later_positive : (bs : List Block) → FirstView bs → (v a : ℕ) → v < (at bs a).view → 0 < a
 later_positive bs first v zero h = absurd (omega (arith, first))
 later_positive bs first v (suc a) h = omega arith
+
+-- a search down a chain that takes the block it begins with
+find_top : (bs : List Block) (p : ℕ → Bool) (b : ℕ) → p b ≡ true → find p (chain bs b) ≡ Some b
+find_top bs p zero e = ap (λ t. cond t (Some zero) (find p [])) e
+find_top bs p (suc b) e = ap (λ t. cond t (Some (suc b)) (find p (cond (eqb (suc b) 0) [] (chain_in bs b (at bs (suc b)).parent)))) e
+
+-- Down a chain the first block with a number of at most c is c exactly where the chain has c.
+module _ (bs : List Block) (before : ParentsBefore bs) (c : ℕ) where
+  abbrev pub finds : ℕ → Bool
+  finds b = option_eq eqb (find (λ x. leb x c) (chain bs b)) (Some c)
+
+  found_here : (b : ℕ) → b < length bs → b ≤ c → finds b ≡ stands bs b c
+  found_here b h within =
+      ap (λ o. option_eq eqb o (Some c)) (find_top bs (λ x. leb x c) b (le-leb b c within))
+      ∙ elim (cases_eq b c) [
+        | inl same ↦ eq-eqb b c same ∙ sym (stands_self bs b) ∙ ap (stands bs b) same
+        | inr other ↦ ne_eqb b c other ∙ sym (stands_above bs before b c h (omega arith))
+      ]
+
+  found_below : (b : ℕ) → b < length bs → c < b → finds (at bs b).parent ≡ stands bs (at bs b).parent c → finds b ≡ stands bs b c
+  found_below b h later below =
+      ap (λ xs. option_eq eqb (find (λ x. leb x c) xs) (Some c)) (chain_step bs before b (omega arith) h)
+      ∙ ap (λ t. option_eq eqb (cond t (Some b) (find (λ x. leb x c) (chain bs (at bs b).parent))) (Some c)) (lt-leb b c later) ∙ below
+      ∙ sym (stands_step bs before b c (omega arith) h ∙ ap (λ t. t || stands bs (at bs b).parent c) (ne_eqb c b (λ e. omega arith)))
+
+  found_in : (k b : ℕ) → b ≤ k → b < length bs → finds b ≡ stands bs b c
+  found_in zero b l h = elim (cases_lt c b) [ inl later ↦ absurd (omega arith) | inr within ↦ found_here b h within ]
+  found_in (suc k) b l h =
+      elim (cases_lt c b) [
+        | inl later ↦ let down = before b (omega arith) h in found_below b h later (found_in k (at bs b).parent (omega arith) (omega arith))
+        | inr within ↦ found_here b h within
+      ]
+
+  pub stands_found : (b : ℕ) → b < length bs → finds b ≡ stands bs b c
+  stands_found b h = found_in b b (omega arith) h
+
+-- what is left of some chain of the book
+abbrev pub Descends : List Block → List ℕ → Type 0
+Descends bs xs = (xs ≡ []) ⊎ ((b : ℕ) × (b < length bs) × (xs ≡ chain bs b))
+
+-- one step down: the block that comes, its chain, and what is left then
+module _ (bs : List Block) (before : ParentsBefore bs) where
+  top_is : (b a : ℕ) (ys : List ℕ) → chain bs b ≡ a ∷ ys → b ≡ a
+  top_is zero a ys e = cc
+  top_is (suc b) a ys e = cc
+
+  below_is : (a : ℕ) (ys : List ℕ) → a < length bs → chain bs a ≡ a ∷ ys → Descends bs ys
+  below_is zero ys h e = inl cc
+  below_is (suc a) ys h e =
+      let step = chain_step bs before (suc a) (omega arith) h in
+      let down = before (suc a) (omega arith) h in
+      inr ((at bs (suc a)).parent, omega arith, cc)
+
+  pub descend : (xs ys : List ℕ) (a : ℕ) → Descends bs xs → xs ≡ a ∷ ys → (a < length bs) × (chain bs a ≡ a ∷ ys) × Descends bs ys
+  descend xs ys a (inl none) e = let z : ◌≡◌ {A = List ℕ} [] (a ∷ ys) = cc in absurd cc
+  descend xs ys a (inr (b, h, same)) e =
+      let top = top_is b a ys (sym same ∙ e) in
+      let held : a < length bs = omega (arith, top) in
+      let whole : chain bs a ≡ a ∷ ys = ap (chain bs) (sym top) ∙ sym same ∙ e in
+      (held, whole, below_is a ys held whole)

@@ -1,6 +1,6 @@
 -- What a book knows stays true as it grows: one block, one vote or one letter more.
 -- Assumes nothing.
-use Rattle.std.proofs.Common.{◌≡◌, ℕ, zero, suc, ◌<◌, ◌≤◌, ◌⊎◌, List, [], ◌∷◌, ◌++◌, length, get_or, set, vec_items, sym, refl, ap, ◌∙◌, subst, inl, inr, arith, length-set, get_or-set_other, get_or-set_same}
+use Rattle.std.proofs.Common.{◌≡◌, ℕ, zero, suc, ◌<◌, ◌≤◌, ◌⊎◌, List, [], ◌∷◌, ◌++◌, length, get_or, set, sym, refl, ap, ◌∙◌, subst, inl, inr, arith, length-set, get_or-set_other, get_or-set_same}
 use Rattle.std.proofs.lemmas.List.{get_or_append_left, get_or_push, length_push}
 use Rattle.std.proofs.lemmas.Bool.{cases_eq, cases_lt}
 use Rattle.book.specs.Changes.{voted}
@@ -8,27 +8,7 @@ use Rattle.book.specs.Known.{Known, Enters}
 use Rattle.book.specs.Pages.{no_reports, genesis, at, letter_at}
 use Rattle.book.specs.declared.block.Block.{Block}
 use Rattle.letters.specs.declared.letter.Letter.{Letter}
-use Rattle.book.specs.declared.pages.Book.{Book}
 use Rattle.book.proofs.Views.{zeros}
-
--- what the book's own invariant says
-pub known_of : (book : Book) → Known (vec_items book.blocks) (vec_items book.letters)
-known_of book =
-    let n = book.blocks.ok.0 in
-    let m = book.letters.ok.0 in
-    record {
-      some = omega (arith, book.some, n);
-      first_view = book.first_view;
-      views_within = book.views_within;
-      parents_before = book.parents_before;
-      parents_earlier = book.parents_earlier;
-      heights_within = book.heights_within;
-      certificates_known = book.certificates_known;
-      commits_known = book.commits_known;
-      reports_known = book.reports_known;
-      letters_known = book.letters_known;
-      letters_later = book.letters_later;
-    }
 
 -- a block that was there, and the one that is added
 pub at_old : (bs : List Block) (b : Block) (k : ℕ) → k < length bs → at (bs ++ b ∷ []) k ≡ at bs k

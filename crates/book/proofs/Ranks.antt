@@ -1,8 +1,8 @@
 -- Ranks: the order of pairs is the order of ranks, and what the highest of a row of ranks tells.
 -- Assumes nothing.
-use Rattle.std.proofs.Common.{◌≡◌, ℕ, zero, suc, ◌+◌, ◌<◌, Bool, true, false, cond, ◌&&◌, ◌||◌, eqb, ltb, List, length, get_or, Some, Ordering, Less, Equal, Greater, sym, refl, ap, ◌∙◌, ap₂, add-one, arith}
+use Rattle.std.proofs.Common.{◌≡◌, ℕ, zero, suc, ◌+◌, ◌<◌, Bool, true, false, cond, ◌&&◌, ◌||◌, eqb, ltb, List, length, get_or, Some, None, Option, Ordering, Less, Equal, Greater, sym, refl, ap, ◌∙◌, ap₂, add-one, arith}
 use Rattle.std.proofs.lemmas.Bool.{lt-ltb}
-use Rattle.std.specs.Cmp.{IsTotalOrder, nat_cmp_total, then_total, on_total}
+use Rattle.std.specs.Option.{option_map_or}
 use Rattle.std.specs.Ordering.{is_lt, nat_cmp, ordering_then}
 use Rattle.highest.specs.Row.{above, FirstHighest}
 use Rattle.letters.proofs.Searches.{any_below_found, any_below_none}
@@ -22,10 +22,7 @@ decided false false c d = refl
 abbrev pub rank_cmp : ℕ × ℕ → ℕ × ℕ → Ordering
 rank_cmp x y = ordering_then (nat_cmp x.0 y.0) (nat_cmp x.1 y.1)
 
-pub rank_total : IsTotalOrder rank_cmp
-rank_total = then_total (on_total (λ p. p.0) nat_cmp_total) (on_total (λ p. p.1) nat_cmp_total)
-
-pub above_is_outranks : (bs : List Block) (x y : ℕ) → above rank_total (rank_of bs x) (rank_of bs y) ≡ outranks bs x y
+pub above_is_outranks : (bs : List Block) (x y : ℕ) → above rank_cmp (rank_of bs x) (rank_of bs y) ≡ outranks bs x y
 above_is_outranks bs x y =
     decided (ltb (at bs y).view (at bs x).view) (eqb (at bs y).view (at bs x).view)
     (ltb (certificate_view bs y) (certificate_view bs x)) (eqb (certificate_view bs y) (certificate_view bs x))
@@ -36,14 +33,15 @@ module _
     (front : get_or ranks 0 (0, 0) ≡ rank_of bs parent)
     (behind : (k : ℕ) → k < 64 → get_or ranks (k + 1) (0, 0) ≡ rank_of bs (get_or reports k 0))
   where
-    rises : (k : ℕ) → k < 64 → above rank_total (get_or ranks (k + 1) (0, 0)) (get_or ranks 0 (0, 0)) ≡ outranks bs (get_or reports k 0) parent
-    rises k h = ap₂ (above rank_total) (behind k h) front ∙ above_is_outranks bs (get_or reports k 0) parent
+    rises : (k : ℕ) → k < 64 → above rank_cmp (get_or ranks (k + 1) (0, 0)) (get_or ranks 0 (0, 0)) ≡ outranks bs (get_or reports k 0) parent
+    rises k h = ap₂ (above rank_cmp) (behind k h) front ∙ above_is_outranks bs (get_or reports k 0) parent
 
     -- another rank than the parent's is picked exactly where a report outranks the parent
     pub picked_above :
-        (place : ℕ) → FirstHighest rank_total ranks (Some place) →
-        ltb 0 place ≡ any_below (λ s. outranks bs (get_or reports s 0) parent) 64
-    picked_above zero f = sym (any_below_none _ 64 (λ k h. sym (rises k h) ∙ f.1 (k + 1) (0, 0) (omega arith)))
-    picked_above (suc i) f =
+        (o : Option ℕ) → FirstHighest rank_cmp ranks o →
+        option_map_or (ltb 0) o false ≡ any_below (λ s. outranks bs (get_or reports s 0) parent) 64
+    picked_above None f = absurd (omega arith)
+    picked_above (Some zero) f = sym (any_below_none _ 64 (λ k h. sym (rises k h) ∙ f.1 (k + 1) (0, 0) (omega arith)))
+    picked_above (Some (suc i)) f =
         lt-ltb 0 (suc i) (omega arith)
-        ∙ sym (any_below_found _ 64 i (omega (arith, f.0)) (sym (rises i (omega (arith, f.0))) ∙ ap (λ j. above rank_total (get_or ranks j (0, 0)) (get_or ranks 0 (0, 0))) (add-one i) ∙ f.2 0 (0, 0) (omega arith)))
+        ∙ sym (any_below_found _ 64 i (omega (arith, f.0)) (sym (rises i (omega (arith, f.0))) ∙ ap (λ j. above rank_cmp (get_or ranks j (0, 0)) (get_or ranks 0 (0, 0))) (add-one i) ∙ f.2 0 (0, 0) (omega arith)))

@@ -1,12 +1,15 @@
 -- Reports: each names a block of the book, of an earlier view, and an unheard seat's report ranks lowest.
 -- Assumes nothing.
-use Rattle.std.proofs.Common.{◌≡◌, ℕ, ◌<◌, Bool, true, false, cond, not, ◌&&◌, eqb, ltb, List, length, get_or, is_some, Some, None, Option, unwrap_or, sym, refl, ap, ◌∙◌, inl, inr, arith}
+use Rattle.std.proofs.Common.{◌≡◌, ℕ, ◌<◌, Bool, true, false, cond, not, ◌&&◌, eqb, ltb, List, length, get_or, is_some, Some, None, Option, unwrap_or, sym, refl, ap, ◌∙◌, subst, inl, inr, arith}
 use Rattle.std.proofs.lemmas.List.FromFn.{get_or-map-range_with_len, length-map-range_with_len}
 use Rattle.std.proofs.lemmas.List.{get_or_past}
 use Rattle.std.proofs.lemmas.Bool.{and_parts, and_from, and_right, both_ways, cases_Bool, cases_lt, eqb-true, eq-eqb, le-ltb, or_from}
 use Rattle.quorum.specs.Seats.{held}
 use Rattle.letters.proofs.Searches.{any_below_some, any_below_not, any_below_same, last_is, last_at}
-use Rattle.book.specs.Admission.{any_below, written, latest, no_letter, report_of, reports_of, silent, reports_it, reports_higher, outranks, certificate_view}
+use Rattle.letters.specs.Letters.{gathered}
+use Rattle.letters.specs.declared.reports.Reports.{Reports}
+use Rattle.quorum.specs.declared.seats.SeatSet.{SeatSet}
+use Rattle.book.specs.Admission.{unfit, any_below, written, latest, no_letter, report_of, reports_of, silent, reports_it, reports_higher, outranks, certificate_view}
 use Rattle.book.specs.Known.{Known}
 use Rattle.book.specs.Pages.{at, letter_at}
 use Rattle.book.specs.Rules.{LatestLetter}
@@ -115,3 +118,16 @@ module _ (bs : List Block) (ls : List Letter) (known : Known bs ls) (heard v : �
       let parts = and_parts (held s heard) (eqb (get_or (reports_of ls heard v) s 0) parent) t in
       let is : report_of ls heard v s ≡ parent = sym (report_at s h) ∙ eqb-true _ _ parts.1 in
       (latest_held s parent (letter_of s parts.0 (any_below_not _ 64 quiet s h) ∙ ap Some is)).1
+
+-- The same of reports that were gathered.
+module _ (bs : List Block) (ls : List Letter) (known : Known bs ls) (heard : SeatSet) (v : ℕ) (r : Reports) (told : r ≡ gathered ls heard v) where
+  pub gathered_held : (s : ℕ) → get_or r.blocks s 0 < length bs
+  gathered_held s = subst (λ (x : Reports). get_or x.blocks s 0 < length bs) (sym told) (reports_held bs ls known heard.bits v s)
+
+  pub gathered_outrank : (parent : ℕ) → any_below (λ s. outranks bs (get_or r.blocks s 0) parent) 64 ≡ any_below (reports_higher bs r.blocks r.heard.bits parent) 64
+  gathered_outrank parent =
+      subst (λ (x : Reports). any_below (λ s. outranks bs (get_or x.blocks s 0) parent) 64 ≡ any_below (reports_higher bs x.blocks x.heard.bits parent) 64)
+      (sym told) (heard_outrank bs ls known heard.bits v parent)
+
+  pub gathered_unfit : (parent : ℕ) → unfit bs (reports_of ls heard.bits v) heard.bits parent ≡ unfit bs r.blocks r.heard.bits parent
+  gathered_unfit parent = ap (λ (x : Reports). unfit bs x.blocks x.heard.bits parent) (sym told)

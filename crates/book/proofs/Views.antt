@@ -2,8 +2,7 @@
 -- Assumes nothing.
 use Rattle.std.proofs.Common.{◌≡◌, ℕ, zero, suc, ◌<◌, ◌≤◌, true, false, cond, eqb, ◌⊎◌, List, [], ◌∷◌, length, get_or, replicate, Less, Equal, Greater, refl, ap, inl, inr, arith}
 use Rattle.std.proofs.lemmas.Bool.{or_left, or_right, or_from, both_ways, cases_lt, lt-ltb, eq-eqb, ne_eqb}
-use Rattle.std.specs.Cmp.{nat_cmp_total}
-use Rattle.std.specs.Ordering.{is_lt}
+use Rattle.std.specs.Ordering.{is_lt, nat_cmp}
 use Rattle.highest.specs.Row.{above}
 use Rattle.book.specs.Admission.{has_view}
 use Rattle.book.specs.Pages.{at}
@@ -39,10 +38,10 @@ highest_is bs m f (inl e) = omega (arith, none_higher bs m f)
 highest_is bs m f (inr x) = omega (arith, none_higher bs m f, view_within bs x.0 x.1, x.2)
 
 -- what is not above is no greater
-pub not_above : (x y : ℕ) → above nat_cmp_total x y ≡ false → x ≤ y
+pub not_above : (x y : ℕ) → above nat_cmp x y ≡ false → x ≤ y
 not_above x y e =
     elim (cases_lt y x) [
-      | inl h ↦ absurd (both_ways (above nat_cmp_total x y) e (ap (λ b. is_lt (cond b Less (cond (eqb y x) Equal Greater))) (lt-ltb y x h)))
+      | inl h ↦ absurd (both_ways (above nat_cmp x y) e (ap (λ b. is_lt (cond b Less (cond (eqb y x) Equal Greater))) (lt-ltb y x h)))
       | inr h ↦ h
     ]
 

@@ -1,6 +1,7 @@
 -- What enters a book: the reply to a proposal, and the block that a justified proposal becomes.
 -- Assumes nothing.
-use Rattle.std.specs.Prelude.{ℕ, ◌+◌, Bool, false, cond, not, ◌&&◌, ◌||◌, List, [], ◌∷◌, ◌++◌, length, Some, None, Ok, Err, Option, Result, ◌==◌, nat_le, nat_lt, slice_index}
+use Rattle.std.specs.Prelude.{ℕ, ◌+◌, Bool, cond, not, ◌&&◌, ◌||◌, List, [], ◌∷◌, ◌++◌, length, Some, None, Ok, Err, Option, Result, ◌==◌, nat_le, nat_lt, slice_index}
+use Rattle.std.specs.List.{list_any}
 use Rattle.quorum.specs.Seats.{held, within, subset}
 use Rattle.refusal.specs.Reasons.{Reason, replied}
 use Rattle.refusal.specs.declared.Refusal.{Refusal}
@@ -45,8 +46,7 @@ outranks bs x y =
 -- Refusals.
 
 abbrev pub has_view : List Block → ℕ → Bool
-has_view [] v = false
-has_view (b ∷ bs) v = b.view == v || has_view bs v
+has_view bs v = list_any (λ b. b.view == v) bs
 
 -- the reasons that fast and slow proposals share
 abbrev pub shared_reasons : Design → List Block → Proposal → List Reason
@@ -117,8 +117,7 @@ abbrev pub clashes : List Block → ℕ → ℕ → Bool
 clashes bs B a = is_slow (at bs a).kind && (nat_lt (at bs B).view (at bs a).view && heard_rival bs B a)
 
 abbrev pub any_of : (ℕ → Bool) → List ℕ → Bool
-any_of p [] = false
-any_of p (x ∷ xs) = p x || any_of p xs
+any_of p xs = list_any p xs
 
 -- no block on the chain of S clashes, or S is of the view after B's
 abbrev pub good : List Block → ℕ → ℕ → Bool

@@ -6,3 +6,5 @@ pub mod Pages
 pub mod Promises
 pub mod Questions
 pub mod Rules
+pub mod Designs
+pub mod Chains

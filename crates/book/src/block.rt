@@ -1,36 +1,15 @@
 // What a book holds.
 ghost use Rattle.std.specs.Prelude.{◌≡◌};
-ghost use Rattle.book.specs.Kinds.{is_first, is_slow};
 ghost use Rattle.book.specs.Questions.{origin_told, report_told};
 
 use quorum::seats::SeatSet;
 
 // How a block was justified. The first block needs no justification.
-#[derive(Clone, Copy)]
+#[derive(Clone, Copy, Debug, PartialEq, Eq)]
 pub enum Kind {
     First,
     Fast,
     Slow,
-}
-
-impl Kind {
-    fn is_first(self) -> bool
-        ensures { result ≡ is_first self }
-    {
-        match self {
-            Kind::First => true,
-            Kind::Fast | Kind::Slow => false,
-        }
-    }
-
-    pub(crate) fn is_slow(self) -> bool
-        ensures { result ≡ is_slow self }
-    {
-        match self {
-            Kind::Slow => true,
-            Kind::First | Kind::Fast => false,
-        }
-    }
 }
 
 // One proposal. Blocks are known by their numbers, in the order in which they entered; block 0 is the first.
@@ -58,7 +37,7 @@ pub struct Block {
 }
 
 // What the first block has none of.
-#[derive(Clone, Copy)]
+#[derive(Clone, Copy, Debug, PartialEq, Eq)]
 pub struct Origin {
     // the block that it stands on
     pub parent: u32,
@@ -73,7 +52,7 @@ impl Block {
     pub fn origin(&self) -> Option<Origin>
         ensures { result ≡ origin_told self.now }
     {
-        if self.kind.is_first() {
+        if self.kind == Kind::First {
             return None;
         }
         Some(Origin {
@@ -87,10 +66,7 @@ impl Block {
     pub fn report(&self, seat: u8) -> Option<u32>
         ensures { result ≡ report_told self.now seat }
     {
-        if self.kind.is_slow() && self.heard.holds(seat) {
-            return Some(self.reports[seat as usize]);
-        }
-        None
+        (self.kind == Kind::Slow && self.heard.holds(seat)).then(|| self.reports[seat as usize])
     }
 }
 

@@ -4,9 +4,8 @@ ghost use Rattle.book.specs.Admission.{any_below, outranks, rank_of, slow_certif
 
 use crate::pages::Book;
 use highest::highest;
-use letters::reports::named;
+use letters::reports::Reports;
 use quorum::rule::QuorumRule;
-use quorum::seats::SeatSet;
 
 impl Book {
     // A block's view and its certificate's view.
@@ -26,13 +25,10 @@ impl Book {
         ensures { result ≡ any_below (λ s. outranks self.now.blocks.items (slice_index reports.now s) parent) 64 }
     {
         let mut ranks = [self.rank_of(parent); 65];
-        for seat in 0..64 {
-            ranks[seat + 1] = self.rank_of(reports[seat]);
+        for (seat, report) in reports.iter().enumerate() {
+            ranks[seat + 1] = self.rank_of(*report);
         }
-        match highest(&ranks) {
-            Some(place) => place > 0,
-            None => false,
-        }
+        highest(&ranks).is_some_and(|place| place > 0)
     }
 
     // The certificate of a slow block: what a quorum of its reports names, where that is on the parent's chain and
@@ -41,14 +37,13 @@ impl Book {
         &self,
         rule: &R,
         parent: u32,
-        reports: &[u32; 64],
-        heard: SeatSet,
+        reports: &Reports,
     ) -> u32
         requires { parent < vec_len self.now.blocks }
-        ensures { result ≡ slow_certificate (R.QuorumRule.quorum rule.now) self.now.blocks.items parent reports.now heard.bits }
+        ensures { result ≡ slow_certificate (R.QuorumRule.quorum rule.now) self.now.blocks.items parent reports.now.blocks reports.now.heard.bits }
     {
         let inherited = self.block(parent).certificate;
-        let Some(block) = named(rule, reports, heard) else {
+        let Some(block) = reports.named(rule) else {
             return inherited;
         };
         if self.stands(parent, block) && self.block(inherited).view < self.block(block).view {

@@ -4,7 +4,9 @@
 mod admission;
 pub mod block;
 mod certificate;
+mod chain;
 mod changes;
+pub mod design;
 pub mod pages;
 mod questions;
 mod walks;

@@ -1,6 +1,6 @@
 // The book.
-ghost use Rattle.std.specs.Prelude.{◌<◌, ◌≤◌, vec_len, vec_capacity};
-ghost use Rattle.book.specs.Known.{FirstView, ViewsWithin, ParentsBefore, ParentsEarlier, HeightsWithin, CertificatesKnown, CommitsKnown, ReportsKnown, LettersKnown, LettersLater};
+ghost use Rattle.std.specs.Prelude.{◌≤◌, vec_len, vec_capacity};
+ghost use Rattle.book.specs.Known.{Known};
 
 use crate::block::Block;
 use letters::letter::Letter;
@@ -12,17 +12,7 @@ pub struct Book {
     pub(crate) letters: Vec<Letter>,
     ghost blocks_room: { 256 ≤ vec_capacity blocks },
     ghost letters_room: { 512 ≤ vec_capacity letters },
-    ghost some: { 0 < vec_len blocks },
     ghost blocks_fit: { vec_len blocks ≤ 256 },
     ghost letters_fit: { vec_len letters ≤ 512 },
-    ghost first_view: { FirstView blocks.items },
-    ghost views_within: { ViewsWithin blocks.items },
-    ghost parents_before: { ParentsBefore blocks.items },
-    ghost parents_earlier: { ParentsEarlier blocks.items },
-    ghost heights_within: { HeightsWithin blocks.items },
-    ghost certificates_known: { CertificatesKnown blocks.items },
-    ghost commits_known: { CommitsKnown blocks.items },
-    ghost reports_known: { ReportsKnown blocks.items },
-    ghost letters_known: { LettersKnown blocks.items letters.items },
-    ghost letters_later: { LettersLater blocks.items letters.items },
+    ghost known: { Known blocks.items letters.items },
 }

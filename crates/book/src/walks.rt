@@ -1,9 +1,11 @@
 // Walks along chains: what stands on what, and what may be committed.
-ghost use Rattle.std.specs.Prelude.{◌≡◌, ◌<◌, length, vec_len};
-ghost use Rattle.book.specs.Admission.{conflict, rival, told_rival, heard_rival, clashes, any_of, good, commit_after};
+ghost use Rattle.std.specs.Prelude.{◌≡◌, ◌<◌, vec_len};
+ghost use Rattle.book.specs.Admission.{conflict, rival, told_rival, clashes, any_of, good, commit_after};
+ghost use Rattle.book.specs.Chains.{left_of};
 ghost use Rattle.book.specs.Pages.{at, chain, stands};
 
 use crate::block::{Block, Kind};
+use crate::chain::Chain;
 use crate::pages::Book;
 
 impl Book {
@@ -15,16 +17,23 @@ impl Book {
         &self.blocks[b as usize]
     }
 
+    // The chain of block b, from b down.
+    pub(crate) fn chain(&self, b: u32) -> Chain<'_>
+        requires { b < vec_len self.now.blocks }
+        ensures { left_of result ≡ chain self.now.blocks.items b }
+    {
+        Chain {
+            blocks: self.blocks.as_slice(),
+            next: Some(b),
+        }
+    }
+
     // Whether block b stands on block c.
     pub(crate) fn stands(&self, b: u32, c: u32) -> bool
         requires { b < vec_len self.now.blocks }
         ensures { result ≡ stands self.now.blocks.items b c }
     {
-        let mut below = b;
-        while below > c {
-            below = self.block(below).parent;
-        }
-        below == c
+        self.chain(b).find(|x| *x <= c) == Some(c)
     }
 
     // Whether neither of two blocks stands on the other.
@@ -53,25 +62,10 @@ impl Book {
         requires base_held { base < vec_len self.now.blocks }
         requires a_held { a < vec_len self.now.blocks }
         requires a_later { 0 < a }
-        requires seated { seat < 64 }
         ensures { result ≡ told_rival self.now.blocks.items base a seat }
     {
         let block = self.block(a);
         block.heard.holds(seat) && self.is_rival(base, a, block.reports[seat as usize])
-    }
-
-    fn heard_rival(&self, base: u32, a: u32) -> bool
-        requires base_held { base < vec_len self.now.blocks }
-        requires a_held { a < vec_len self.now.blocks }
-        requires a_later { 0 < a }
-        ensures { result ≡ heard_rival self.now.blocks.items base a }
-    {
-        for seat in 0..64 {
-            if self.told_rival(base, a, seat) {
-                return true;
-            }
-        }
-        false
     }
 
     // Whether block a is slow, is later than the base, and heard of such a rival.
@@ -81,7 +75,9 @@ impl Book {
         ensures { result ≡ clashes self.now.blocks.items base a }
     {
         let block = self.block(a);
-        block.kind.is_slow() && self.block(base).view < block.view && self.heard_rival(base, a)
+        block.kind == Kind::Slow
+            && self.block(base).view < block.view
+            && (0..64).any(|seat| self.told_rival(base, a, seat))
     }
 
     // Whether a block on the chain of the top clashes with the base. Blocks no later than the base need no look.
@@ -91,12 +87,13 @@ impl Book {
         ensures { result ≡ any_of (clashes self.now.blocks.items base) (chain self.now.blocks.items top) }
     {
         let floor = self.block(base).view;
-        let mut a = top;
-        while self.block(a).view > floor {
+        for a in self.chain(top) {
+            if self.block(a).view <= floor {
+                return false;
+            }
             if self.clashes(base, a) {
                 return true;
             }
-            a = self.block(a).parent;
         }
         false
     }

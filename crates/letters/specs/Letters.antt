@@ -6,6 +6,8 @@ use Rattle.std.specs.Option.{unwrap_or}
 use Rattle.quorum.specs.Seats.{held}
 use Rattle.letters.specs.Searches.{any_below, last_below}
 use Rattle.letters.specs.declared.letter.Letter.{Letter}
+use Rattle.letters.specs.declared.reports.Reports.{Reports}
+use Rattle.quorum.specs.declared.seats.SeatSet.{SeatSet}
 
 -- the letter with number i, in order of arrival
 abbrev pub letter_at : List Letter → ℕ → Letter
@@ -29,6 +31,10 @@ report_of ls heard v s = cond (held s heard) (unwrap_or (latest ls s v) 0) 0
 
 unfoldable pub reports_of : List Letter → ℕ → ℕ → List ℕ
 reports_of ls heard v = map (report_of ls heard v) (range_with_len 0 64)
+
+-- the heard seats with their reports
+abbrev pub gathered : List Letter → SeatSet → ℕ → Reports
+gathered ls heard v = record { heard = heard; blocks = reports_of ls heard.bits v }
 
 -- a heard seat has no letter for the view
 abbrev pub silent : List Letter → ℕ → ℕ → Bool

@@ -1,7 +1,7 @@
 // Reports: what the seats that a leader heard say by their latest letters.
 ghost use Rattle.std.specs.Prelude.{◌≡◌, if◌then◌else◌, Ok, Err};
 ghost use Rattle.refusal.specs.declared.Refusal.TheVariants.{HeardSeatSilent};
-ghost use Rattle.letters.specs.Letters.{no_letter, report_of, reports_of, silent};
+ghost use Rattle.letters.specs.Letters.{no_letter, report_of, gathered, silent};
 ghost use Rattle.letters.specs.Named.{reports_it, namers, decides_with, named};
 ghost use Rattle.letters.specs.Searches.{any_below};
 
@@ -33,7 +33,7 @@ pub struct Reports {
 impl Reports {
     // What the heard seats report to a block of a view.
     pub fn gather(letters: &[Letter], heard: SeatSet, view: u32) -> Result<Reports, Refusal>
-        ensures { result ≡ (if silent letters.now heard.bits view then Err HeardSeatSilent else Ok (record { heard = heard; blocks = reports_of letters.now heard.bits view })) }
+        ensures { result ≡ (if silent letters.now heard.bits view then Err HeardSeatSilent else Ok (gathered letters.now heard view)) }
     {
         let mut blocks = [0; 64];
         for (seat, block) in blocks.iter_mut().enumerate() {

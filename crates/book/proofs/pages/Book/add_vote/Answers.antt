@@ -5,7 +5,6 @@ use Rattle.book.specs.Changes.{voted, vote_after}
 use Rattle.book.specs.Pages.{genesis, at}
 use Rattle.book.specs.Rules.{WellMade}
 use Rattle.book.specs.declared.block.Block.{Block}
-use Rattle.book.proofs.Growth.{known_of}
 use Rattle.book.proofs.Keeps.{well_vote}
 use Rattle.book.proofs.pages.Book.add_vote.Goals as goal
 
@@ -57,5 +56,5 @@ returns c =
       reply = search rules;
       blocks = back;
       letters = refl;
-      lawful = λ d well. subst (WellMade d) (sym back) (well_vote d bs (vec_items book.letters) (known_of book) seat k well);
+      lawful = λ d well. subst (WellMade d) (sym back) (well_vote d bs (vec_items book.letters) book.known seat k well);
     }

@@ -1,13 +1,16 @@
-use Rattle.std.proofs.Common.{◌≡◌, ◌<◌, vec_items, vec_len}
+use Rattle.std.proofs.Common.{◌≡◌, vec_items}
 use Rattle.book.specs.Admission.{any_of, clashes}
+use Rattle.book.specs.Chains.{left_of}
 use Rattle.book.specs.Pages.{chain}
+use Rattle.book.proofs.Chains.{Descends}
 use Rattle.book.proofs.pages.Book.has_clash.Given as goal
 
-abbrev pub invariant-loop-top : goal.invariant-loop-top
-invariant-loop-top l =
+-- further down the chain the answer is the same
+abbrev pub invariant-loop-a : goal.invariant-loop-a
+invariant-loop-a l =
     let bs = vec_items l.self.blocks in
-    (l.a < vec_len l.self.blocks)
-    × (any_of (clashes bs l.base) (chain bs l.a) ≡ any_of (clashes bs l.base) (chain bs l.top))
-
-abbrev pub decreases-loop-top : goal.decreases-loop-top
-decreases-loop-top l = l.a
+    let test = clashes bs l.base in
+    record {
+      down : Descends bs (left_of l.a-iterator);
+      left : any_of test (left_of l.a-iterator) ≡ any_of test (chain bs l.top);
+    }

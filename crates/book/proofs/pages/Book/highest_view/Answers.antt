@@ -1,33 +1,26 @@
-use Rattle.std.proofs.Common.{ℕ, ◌<◌, ◌≤◌, length, get_or, Some, vec_items, sym, refl, ap, inl, inr, arith, rules}
+use Rattle.std.proofs.Common.{ℕ, ◌<◌, ◌≤◌, length, slice_index, Some, vec_items, sym, refl, ap, inl, inr, arith}
 use Rattle.std.proofs.lemmas.Bool.{cases_lt}
-use Rattle.std.specs.Cmp.{nat_cmp_total}
 use Rattle.book.specs.Pages.{at}
 use Rattle.book.proofs.Views.{highest_is, not_above, zeros}
 use Rattle.book.proofs.pages.Book.highest_view.Goals as goal
 
 pub loop-b-init : goal.loop-b-init
-loop-b-init c = (refl, λ k h. absurd (omega arith), λ k h. zeros 256 k)
-
-pub returns-in_err-place : goal.returns-in_err-place
-returns-in_err-place c = absurd (omega (arith, c.in_err-place.ensures nat_cmp_total, c.loop-b.invariant.0))
-
-pub offset_bounds-views-place : goal.offset_bounds-views-place
-offset_bounds-views-place c = let h = (c.in_ok-place.ensures nat_cmp_total).0 in search rules
-
-pub bounds-views-place : goal.bounds-views-place
-bounds-views-place c = omega (arith, (c.in_ok-place.ensures nat_cmp_total).0, c.loop-b.invariant.0)
+loop-b-init c = record { whole = refl; copied = λ k h. absurd (omega arith); empty = λ k h. zeros 256 k }
 
 pub returns : goal.returns
 returns c =
     let book = c.args.self.now in
     let bs = vec_items book.blocks in
     let place = c.in_ok-place.place in
-    let top = c.in_ok-place.ensures nat_cmp_total in
-    let all : length bs ≤ c.loop-b.b = omega (arith, book.blocks.ok.0, c.len-b-end.ensures, c.loop-b-test.false) in
+    let views = c.loop-b.views in
+    let row = c.loop-b.invariant in
+    let top = c.in_ok-place.ensures in
+    let all : length bs ≤ c.loop-b.b = omega (arith, c.loop-b-test.false, c.deref-block-items.ensures.len, ap length c.deref-block-items.ensures.value) in
     let few : length bs ≤ 256 = omega (arith, book.blocks.ok.0, book.blocks_fit) in
-    let none : (k : ℕ) → k < length bs → (at bs k).view ≤ get_or c.loop-b.views place 0 = λ k h. let read = c.loop-b.invariant.1 k (omega arith) in omega (arith, read, not_above (get_or c.loop-b.views k 0) (get_or c.loop-b.views place 0) (top.1 k 0 (omega (arith, c.loop-b.invariant.0)))) in
+    let none : (k : ℕ) → k < length bs → (at bs k).view ≤ slice_index views place =
+    λ k h. let read = row.copied k (omega arith) in omega (arith, read, not_above (slice_index views k) (slice_index views place) (top.1 k 0 (omega (arith, row.whole)))) in
     ap Some
     (elim (cases_lt place c.loop-b.b) [
-      | inl h ↦ highest_is bs (get_or c.loop-b.views place 0) none (inr (place, omega (arith, h, c.loop-b.auto.b-end, c.len-b-end.ensures, book.blocks.ok.0), sym (c.loop-b.invariant.1 place h)))
-      | inr g ↦ highest_is bs (get_or c.loop-b.views place 0) none (inl (c.loop-b.invariant.2 place g))
+      | inl h ↦ highest_is bs (slice_index views place) none (inr (place, omega (arith, h, c.loop-b.auto.b-end, ap length c.deref-block-items.ensures.value), sym (row.copied place h)))
+      | inr g ↦ highest_is bs (slice_index views place) none (inl (row.empty place g))
     ])

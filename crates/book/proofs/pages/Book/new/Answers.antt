@@ -39,19 +39,9 @@ invariant_of-result c =
     record {
       blocks_room = omega (arith, c.push_reserved.ensures.capacity, blocks.capacity);
       letters_room = omega (arith, none.capacity);
-      some = omega (arith, c.push_reserved.ensures.len);
       blocks_fit = omega (arith, c.push_reserved.ensures.len, blocks.len);
       letters_fit = omega (arith, none.len);
-      first_view = known.first_view;
-      views_within = known.views_within;
-      parents_before = known.parents_before;
-      parents_earlier = known.parents_earlier;
-      heights_within = known.heights_within;
-      certificates_known = known.certificates_known;
-      commits_known = known.commits_known;
-      reports_known = known.reports_known;
-      letters_known = known.letters_known;
-      letters_later = known.letters_later;
+      known = known;
     }
 
 pub returns : goal.returns

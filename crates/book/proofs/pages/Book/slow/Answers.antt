@@ -1,15 +1,17 @@
-use Rattle.std.proofs.Common.{◌<◌, not, [], ◌∷◌, ◌++◌, length, get_or, Ok, Err, vec_items, sym, refl, ap, ◌∙◌, subst, ap₂, arith}
+use Rattle.std.proofs.Common.{not, [], ◌∷◌, ◌++◌, Ok, Err, vec_items, sym, refl, ap, ◌∙◌, subst, ap₂, arith}
 use Rattle.std.proofs.lemmas.Result.{err_from_is_err_and}
 use Rattle.std.proofs.lemmas.Bool.{or_parts, not-false}
 use Rattle.refusal.proofs.Replies.{passed_value, told_err, told_ok}
 use Rattle.refusal.specs.declared.Refusal.TheVariants.{HeardSeatSilent, ParentUnfit}
-use Rattle.book.specs.Admission.{design, shared_reasons, entered, any_below, silent, reports_it, reports_higher, reports_of, slow_certificate}
+use Rattle.book.specs.Admission.{shared_reasons, entered, any_below, silent, reports_it, reports_higher, reports_of, slow_certificate}
+use Rattle.book.specs.Designs.{design_of}
 use Rattle.book.specs.Known.{Enters}
 use Rattle.book.specs.declared.block.Kind.TheVariants.{Slow}
 use Rattle.book.proofs.Admitted.{slow_admission}
 use Rattle.book.proofs.Entries.{screened, can_enter, slow_accepted, slow_screened_out, slow_silent, slow_unfit, slow_grown, slow_kept, slow_certificate_held}
-use Rattle.book.proofs.Growth.{known_of}
-use Rattle.book.proofs.Reports.{reports_held, reported_earlier}
+use Rattle.book.proofs.Reports.{reported_earlier, gathered_held, gathered_unfit}
+use Rattle.letters.specs.Letters.{gathered}
+use Rattle.letters.specs.declared.reports.Reports.{Reports}
 use Rattle.book.proofs.pages.Book.slow.Goals as goal
 
 pub returns-in_err-maker : goal.returns-in_err-maker
@@ -18,11 +20,11 @@ returns-in_err-maker g c =
     let bs = vec_items book.blocks in
     let ls = vec_items book.letters in
     let p = c.args.proposal.now in
-    let d = design (g.R.QuorumRule.seats c.args.rule.now) (g.R.QuorumRule.quorum c.args.rule.now) (g.T.Rotation.leads c.args.rotation.now) c.args.open_set.bits in
+    let d = design_of g.R.QuorumRule g.T.Rotation c.args.design.now in
     let given = err_from_is_err_and c.from_residual.result c.from_residual.ensures.1 in
     let e = c.in_err-maker.field-0.0 in
     let out = slow_screened_out d bs ls p e c.in_err-maker.ensures in
-    slow_admission d bs ls (known_of book) (g.met.R.QuorumRule.lawful c.args.rule.now) p _ _ _
+    slow_admission d bs ls book.known (g.met.R.QuorumRule.lawful c.args.design.now.rule.now) p _ _ _
     (given.1 ∙ ap Err given.2 ∙ sym out)
     (sym (slow_kept d bs ls p e out))
     (refl)
@@ -33,13 +35,13 @@ returns-in_err-reports g c =
     let bs = vec_items book.blocks in
     let ls = vec_items book.letters in
     let p = c.args.proposal.now in
-    let d = design (g.R.QuorumRule.seats c.args.rule.now) (g.R.QuorumRule.quorum c.args.rule.now) (g.T.Rotation.leads c.args.rotation.now) c.args.open_set.bits in
+    let d = design_of g.R.QuorumRule g.T.Rotation c.args.design.now in
     let maker = c.in_ok-maker.maker in
     let passed = c.in_ok-maker.ensures in
     let given = err_from_is_err_and c.from_residual-in_err-reports.result c.from_residual-in_err-reports.ensures.1 in
-    let told = told_err (silent ls p.heard.bits p.view) HeardSeatSilent c.in_err-reports.field-0.0 (reports_of ls p.heard.bits p.view) c.in_err-reports.ensures in
+    let told = told_err (silent ls p.heard.bits p.view) HeardSeatSilent c.in_err-reports.field-0.0 (gathered ls p.heard p.view) c.in_err-reports.ensures in
     let out = slow_silent d bs ls p maker passed told.0 in
-    slow_admission d bs ls (known_of book) (g.met.R.QuorumRule.lawful c.args.rule.now) p _ _ _
+    slow_admission d bs ls book.known (g.met.R.QuorumRule.lawful c.args.design.now.rule.now) p _ _ _
     (given.1 ∙ ap Err (given.2 ∙ told.1) ∙ sym out)
     (sym (slow_kept d bs ls p HeardSeatSilent out))
     (refl)
@@ -50,11 +52,11 @@ is_unfit-requires g c =
     let bs = vec_items book.blocks in
     let ls = vec_items book.letters in
     let p = c.args.proposal.now in
-    let d = design (g.R.QuorumRule.seats c.args.rule.now) (g.R.QuorumRule.quorum c.args.rule.now) (g.T.Rotation.leads c.args.rotation.now) c.args.open_set.bits in
+    let d = design_of g.R.QuorumRule g.T.Rotation c.args.design.now in
     let maker = c.in_ok-maker.maker in
     let passed = c.in_ok-maker.ensures in
     let reports = reports_of ls p.heard.bits p.view in
-    let told = told_ok (silent ls p.heard.bits p.view) HeardSeatSilent c.in_ok-reports.reports reports c.in_ok-reports.ensures in
+    let told = told_ok (silent ls p.heard.bits p.view) HeardSeatSilent c.in_ok-reports.reports (gathered ls p.heard p.view) c.in_ok-reports.ensures in
     let s = screened d bs p maker (d.leads p.view) passed in
     record { parent_held = omega (arith, s.parent_held, book.blocks.ok.0); told = told.1 }
 
@@ -64,13 +66,13 @@ returns-then-is_unfit g c =
     let bs = vec_items book.blocks in
     let ls = vec_items book.letters in
     let p = c.args.proposal.now in
-    let d = design (g.R.QuorumRule.seats c.args.rule.now) (g.R.QuorumRule.quorum c.args.rule.now) (g.T.Rotation.leads c.args.rotation.now) c.args.open_set.bits in
+    let d = design_of g.R.QuorumRule g.T.Rotation c.args.design.now in
     let maker = c.in_ok-maker.maker in
     let passed = c.in_ok-maker.ensures in
     let reports = reports_of ls p.heard.bits p.view in
-    let told = told_ok (silent ls p.heard.bits p.view) HeardSeatSilent c.in_ok-reports.reports reports c.in_ok-reports.ensures in
-    let out = slow_unfit d bs ls p maker passed told.0 (sym c.is_unfit.ensures ∙ c.if-is_unfit.true) in
-    slow_admission d bs ls (known_of book) (g.met.R.QuorumRule.lawful c.args.rule.now) p _ _ _
+    let told = told_ok (silent ls p.heard.bits p.view) HeardSeatSilent c.in_ok-reports.reports (gathered ls p.heard p.view) c.in_ok-reports.ensures in
+    let out = slow_unfit d bs ls p maker passed told.0 (gathered_unfit bs ls book.known p.heard p.view _ told.1 p.parent ∙ sym c.is_unfit.ensures ∙ c.if-is_unfit.true) in
+    slow_admission d bs ls book.known (g.met.R.QuorumRule.lawful c.args.design.now.rule.now) p _ _ _
     (sym out)
     (sym (slow_kept d bs ls p ParentUnfit out))
     (refl)
@@ -81,11 +83,11 @@ proposed-block-requires g c =
     let bs = vec_items book.blocks in
     let ls = vec_items book.letters in
     let p = c.args.proposal.now in
-    let d = design (g.R.QuorumRule.seats c.args.rule.now) (g.R.QuorumRule.quorum c.args.rule.now) (g.T.Rotation.leads c.args.rotation.now) c.args.open_set.bits in
+    let d = design_of g.R.QuorumRule g.T.Rotation c.args.design.now in
     let maker = c.in_ok-maker.maker in
     let passed = c.in_ok-maker.ensures in
     let s = screened d bs p maker (d.leads p.view) passed in
-    let held = slow_certificate_held d.quorum bs ls (known_of book) p.parent c.in_ok-reports.reports p.heard.bits s.parent_held in
+    let held = slow_certificate_held d.quorum bs ls book.known p.parent c.in_ok-reports.reports.blocks c.in_ok-reports.reports.heard.bits s.parent_held in
     record {
       parent_held = omega (arith, s.parent_held, book.blocks.ok.0);
       certificate_held = omega (arith, held, c.slow_certificate-certificate.ensures, book.blocks.ok.0);
@@ -97,21 +99,21 @@ enter-requires g c =
     let bs = vec_items book.blocks in
     let ls = vec_items book.letters in
     let p = c.args.proposal.now in
-    let d = design (g.R.QuorumRule.seats c.args.rule.now) (g.R.QuorumRule.quorum c.args.rule.now) (g.T.Rotation.leads c.args.rotation.now) c.args.open_set.bits in
+    let d = design_of g.R.QuorumRule g.T.Rotation c.args.design.now in
     let maker = c.in_ok-maker.maker in
     let passed = c.in_ok-maker.ensures in
     let reports = reports_of ls p.heard.bits p.view in
-    let told = told_ok (silent ls p.heard.bits p.view) HeardSeatSilent c.in_ok-reports.reports reports c.in_ok-reports.ensures in
+    let told = told_ok (silent ls p.heard.bits p.view) HeardSeatSilent c.in_ok-reports.reports (gathered ls p.heard p.view) c.in_ok-reports.ensures in
     let s = screened d bs p maker (d.leads p.view) passed in
-    let fit = sym c.is_unfit.ensures ∙ c.if-is_unfit.false in
+    let fit = gathered_unfit bs ls book.known p.heard p.view _ told.1 p.parent ∙ sym c.is_unfit.ensures ∙ c.if-is_unfit.false in
     let parts = or_parts (not (any_below (reports_it reports p.heard.bits p.parent) 64)) (any_below (reports_higher bs reports p.heard.bits p.parent) 64) fit in
-    let earlier = reported_earlier bs ls (known_of book) p.heard.bits p.view p.parent told.0 (not-false (any_below (reports_it reports p.heard.bits p.parent) 64) parts.0) in
-    let held = slow_certificate_held d.quorum bs ls (known_of book) p.parent c.in_ok-reports.reports p.heard.bits s.parent_held in
+    let earlier = reported_earlier bs ls book.known p.heard.bits p.view p.parent told.0 (not-false (any_below (reports_it reports p.heard.bits p.parent) 64) parts.0) in
+    let held = slow_certificate_held d.quorum bs ls book.known p.parent c.in_ok-reports.reports.blocks c.in_ok-reports.reports.heard.bits s.parent_held in
     record {
       room = omega (arith, s.room, book.blocks.ok.0);
       enters =
           subst (Enters bs) (sym c.proposed-block.ensures)
-          (can_enter bs ls (known_of book) p maker Slow c.in_ok-reports.reports c.slow_certificate-certificate.result s.viewed.1 s.parent_held earlier (omega (arith, held, c.slow_certificate-certificate.ensures)) (λ k. subst (λ rs. get_or rs k 0 < length bs) (sym told.1) (reports_held bs ls (known_of book) p.heard.bits p.view k)));
+          (can_enter bs ls book.known p maker Slow c.in_ok-reports.reports.blocks c.slow_certificate-certificate.result s.viewed.1 s.parent_held earlier (omega (arith, held, c.slow_certificate-certificate.ensures)) (gathered_held bs ls book.known p.heard p.view _ told.1));
     }
 
 pub returns : goal.returns
@@ -120,18 +122,18 @@ returns g c =
     let bs = vec_items book.blocks in
     let ls = vec_items book.letters in
     let p = c.args.proposal.now in
-    let d = design (g.R.QuorumRule.seats c.args.rule.now) (g.R.QuorumRule.quorum c.args.rule.now) (g.T.Rotation.leads c.args.rotation.now) c.args.open_set.bits in
+    let d = design_of g.R.QuorumRule g.T.Rotation c.args.design.now in
     let maker = c.in_ok-maker.maker in
     let passed = c.in_ok-maker.ensures in
     let reports = reports_of ls p.heard.bits p.view in
-    let told = told_ok (silent ls p.heard.bits p.view) HeardSeatSilent c.in_ok-reports.reports reports c.in_ok-reports.ensures in
-    let fit = sym c.is_unfit.ensures ∙ c.if-is_unfit.false in
+    let told = told_ok (silent ls p.heard.bits p.view) HeardSeatSilent c.in_ok-reports.reports (gathered ls p.heard p.view) c.in_ok-reports.ensures in
+    let fit = gathered_unfit bs ls book.known p.heard p.view _ told.1 p.parent ∙ sym c.is_unfit.ensures ∙ c.if-is_unfit.false in
     let in_book = slow_accepted d bs ls p maker passed told.0 fit in
     let leader = passed_value (shared_reasons d bs p) maker (d.leads p.view) passed in
-    let certificate = c.slow_certificate-certificate.ensures ∙ ap (λ rs. slow_certificate d.quorum bs p.parent rs p.heard.bits) told.1 in
-    slow_admission d bs ls (known_of book) (g.met.R.QuorumRule.lawful c.args.rule.now) p _ _ _
+    let certificate = c.slow_certificate-certificate.ensures ∙ ap (λ (r : Reports). slow_certificate d.quorum bs p.parent r.blocks r.heard.bits) told.1 in
+    slow_admission d bs ls book.known (g.met.R.QuorumRule.lawful c.args.design.now.rule.now) p _ _ _
     (ap Ok c.enter.ensures.number ∙ sym in_book)
     (c.enter.ensures.blocks
-    ∙ ap (λ b. bs ++ b ∷ []) (c.proposed-block.ensures ∙ ap (λ m. entered bs m p Slow c.in_ok-reports.reports c.slow_certificate-certificate.result) leader ∙ ap₂ (λ rs t. entered bs (d.leads p.view) p Slow rs t) told.1 certificate)
+    ∙ ap (λ b. bs ++ b ∷ []) (c.proposed-block.ensures ∙ ap (λ m. entered bs m p Slow c.in_ok-reports.reports.blocks c.slow_certificate-certificate.result) leader ∙ ap₂ (λ (r : Reports) t. entered bs (d.leads p.view) p Slow r.blocks t) told.1 certificate)
     ∙ sym (slow_grown d bs ls p in_book))
     c.enter.ensures.letters

@@ -7,5 +7,5 @@ block-requires-then-stands-2 g c =
     let book = c.args.self.now in
     let bs = vec_items book.blocks in
     let held : c.args.parent < length bs = omega (arith, c.requires, book.blocks.ok.0) in
-    let below = stands_within bs book.parents_before c.args.parent c.in-Some.block held (sym c.stands.ensures ∙ c.if-stands.true) in
+    let below = stands_within bs book.known.parents_before c.args.parent c.in-Some.block held (sym c.stands.ensures ∙ c.if-stands.true) in
     omega (arith, below, c.requires)

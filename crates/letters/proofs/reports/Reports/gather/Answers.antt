@@ -4,7 +4,7 @@ use Rattle.std.proofs.lemmas.Result.{err_from_is_err_and}
 use Rattle.refusal.proofs.Replies.{told_err}
 use Rattle.refusal.specs.declared.Refusal.TheVariants.{HeardSeatSilent}
 use Rattle.letters.proofs.Searches.{any_below_found, any_below_none}
-use Rattle.letters.specs.Letters.{no_letter, report_of, reports_of}
+use Rattle.letters.specs.Letters.{no_letter, report_of, reports_of, gathered}
 use Rattle.letters.proofs.reports.Reports.gather.Goals as goal
 
 pub returns-in_err-block : goal.returns-in_err-block
@@ -16,7 +16,7 @@ returns-in_err-block c =
     let p = err_from_is_err_and c.from_residual.result c.from_residual.ensures.1 in
     let told = told_err (no_letter ls heard v seat) HeardSeatSilent c.in_err-block.field-0.0 (report_of ls heard v seat) c.in_err-block.ensures in
     let found = any_below_found (no_letter ls heard v) 64 seat c.loop-seat-test.true told.0 in
-    p.1 ∙ ap Err (p.2 ∙ told.1) ∙ sym (ap (λ t. cond t (Err HeardSeatSilent) (Ok (record { heard = c.args.heard; blocks = reports_of ls heard v }))) found)
+    p.1 ∙ ap Err (p.2 ∙ told.1) ∙ sym (ap (λ t. cond t (Err HeardSeatSilent) (Ok (gathered ls c.args.heard v))) found)
 
 pub returns : goal.returns
 unfolding reports_of
@@ -28,4 +28,4 @@ returns c =
     let filled =
     fill_by_all (report_of ls heard v) c.loop-seat.block-items 64 0 c.loop-seat.invariant.whole
     (λ k h. c.loop-seat.invariant.filled k (omega (arith, c.loop-seat-test.false))) in
-    ap (λ x. Ok (record { heard = c.args.heard; blocks = x })) filled ∙ sym (ap (λ t. cond t (Err HeardSeatSilent) (Ok (record { heard = c.args.heard; blocks = reports_of ls heard v }))) none)
+    ap (λ x. Ok (record { heard = c.args.heard; blocks = x })) filled ∙ sym (ap (λ t. cond t (Err HeardSeatSilent) (Ok (gathered ls c.args.heard v))) none)
