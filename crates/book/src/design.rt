@@ -2,6 +2,7 @@
 use quorum::seats::SeatSet;
 
 // The rule, the rotation and the open seats that a cluster is made from, lent for a call.
+#[derive(Drop)]
 pub struct Design<'a, R, T> {
     pub rule: &'a R,
     pub rotation: &'a T,

@@ -32,9 +32,7 @@ impl<R: QuorumRule + Drop, T: Rotation + Drop> Cluster<R, T> {
         if !open_set.is_within(n) {
             return Err(Refusal::UnknownSeatInSet);
         }
-        let Ok(book) = Book::new(heap, n) else {
-            return Err(Refusal::NoMemory);
-        };
+        let book = Book::new(heap, n)?;
         Ok(Cluster {
             rule,
             rotation,

@@ -97,8 +97,8 @@ module _ {R : Type 0} (q : QuorumRule.Ghosts R) (rule : R) (inner : Inner) (s : 
       let none = none_applies reasons vote _ (told (λ x. 0)) in
       let is = passed_value reasons vote _ (told (λ x. 0)) in
       let bs = vec_items inner.book.blocks in
-      let held = subst (λ b. leb (length bs) b ≡ false) (sym is) (lt-leb _ _ (inner.votes_known s)) in
-      let above : (at bs me.vote).view < v = omega (arith, inner.views_reached s, leb-false _ _ none.1.1.1.0) in
+      let held = subst (λ b. leb (length bs) b ≡ false) (sym is) (lt-leb _ _ (inner.seated.votes s)) in
+      let above : (at bs me.vote).view < v = omega (arith, inner.seated.views s, leb-false _ _ none.1.1.1.0) in
       let later = subst (λ b. leb v (at bs b).view ≡ false) (sym is) (lt-leb _ _ above) in
       let earlier : List Reason = (leb (length bs) vote, NoSuchBlock) ∷ (not (is_view v), ViewOutOfRange) ∷ (leb v (at bs vote).view, BlockNotBelowLetter) ∷ [] in
       replied_past {X = ℕ} earlier ((leb 512 (length ls), LettersFull) ∷ []) 0 0 (length ls + 1) (sym (none_refused earlier 0 (held, (none.1.0, (later, tt)))))

@@ -11,19 +11,13 @@ use Rattle.book.specs.Admission.{grown}
 use Rattle.book.specs.Pages.{at, stands}
 use Rattle.book.specs.declared.block.Block.{Block}
 use Rattle.book.specs.declared.pages.Book.{Book}
-use Rattle.book.proofs.Growth.{known_of}
 use Rattle.book.proofs.Extends.{Extends, extends_refl, extends_push}
 use Rattle.protocol.specs.Calls.{show_reasons, shown}
 use Rattle.protocol.specs.Held.{under}
-use Rattle.protocol.specs.Seated.{VotesKnown, TipsKnown, ViewsReached}
+use Rattle.protocol.specs.Seated.{Seated}
 use Rattle.protocol.specs.State.{idle}
 use Rattle.protocol.specs.declared.inner.Inner.{Inner}
 use Rattle.protocol.specs.declared.seat.Seat.{Seat}
-
-pub record Seated (bs : List Block) (seats : List Seat) : Type 0 where
-  pub votes : VotesKnown bs seats
-  pub tips : TipsKnown bs seats
-  pub views : ViewsReached bs seats
 
 pub seated_extends : {bs cs : List Block} (seats : List Seat) → Extends bs cs → Seated bs seats → Seated cs seats
 seated_extends seats e k =
@@ -52,9 +46,6 @@ seated_set bs seats s me k vote tip view =
       views = put_in (λ x. (at bs x.vote).view ≤ x.view) seats s me idle view k.views;
     }
 
-pub seated_in : (inner : Inner) → Seated (vec_items inner.book.blocks) inner.seats
-seated_in inner = record { votes = inner.votes_known; tips = inner.tips_known; views = inner.views_reached }
-
 grown_extends : (r : Result ℕ Refusal) (bs : List Block) (b : Block) → Extends bs (grown r bs b)
 grown_extends (Ok x) bs b = extends_push bs b
 grown_extends (Err e) bs b = extends_refl bs
@@ -63,7 +54,7 @@ grown_extends (Err e) bs b = extends_refl bs
 pub seated_grown : (inner : Inner) (r : Result ℕ Refusal) (b : Block) (cs : List Block) → cs ≡ grown r (vec_items inner.book.blocks) b → Seated cs inner.seats
 seated_grown inner r b cs is =
     let bs = vec_items inner.book.blocks in
-    subst (λ xs. Seated xs inner.seats) (sym is) (seated_extends inner.seats (grown_extends r bs b) (seated_in inner))
+    subst (λ xs. Seated xs inner.seats) (sym is) (seated_extends inner.seats (grown_extends r bs b) inner.seated)
 
 pub idle_at : (n s : ℕ) → get_or (replicate n idle) s idle ≡ idle
 idle_at zero s = refl
@@ -73,7 +64,7 @@ idle_at (suc n) (suc s) = idle_at n s
 -- seats that have done nothing, beside any book
 pub seated_idle : (book : Book) → Seated (vec_items book.blocks) (replicate 64 idle)
 seated_idle book =
-    let known = known_of book in
+    let known = book.known in
     let each : (P : Seat → Type 0) → P idle → (s : ℕ) → P (get_or (replicate 64 idle) s idle) = λ P p s. subst P (sym (idle_at 64 s)) p in
     let bs = vec_items book.blocks in
     record {
@@ -87,8 +78,8 @@ pub tip_held : {R : Type 0} (q : QuorumRule.Ghosts R) (rule : R) (inner : Inner)
 tip_held q rule inner s b z told held =
     let bs = vec_items inner.book.blocks in
     let st = under q rule (λ v. 0) inner in
-    let commit : (at bs b).commit < length bs = omega (arith, (known_of inner.book).commits_known b held, held) in
-    subst (λ x. x < length bs) (sym (passed_value (show_reasons st s b) z _ (told (λ v. 0)))) (either (stands bs (at bs b).commit (get_or inner.seats s idle).tip) commit (inner.tips_known s))
+    let commit : (at bs b).commit < length bs = omega (arith, inner.book.known.commits_known b held, held) in
+    subst (λ x. x < length bs) (sym (passed_value (show_reasons st s b) z _ (told (λ v. 0)))) (either (stands bs (at bs b).commit (get_or inner.seats s idle).tip) commit (inner.seated.tips s))
   where
     either : {commit tip n : ℕ} (q : Bool) → commit < n → tip < n → cond q commit tip < n
     either true h k = h

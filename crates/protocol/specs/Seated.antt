@@ -15,3 +15,9 @@ TipsKnown bs seats = (s : ℕ) → (slice_index_or seats s idle).tip < length bs
 -- a seat is not in a view before that of its last vote
 abbrev pub ViewsReached : List Block → List Seat → Type 0
 ViewsReached bs seats = (s : ℕ) → (at bs (slice_index_or seats s idle).vote).view ≤ (slice_index_or seats s idle).view
+
+-- all of these
+pub record Seated (bs : List Block) (seats : List Seat) : Type 0 where
+  pub votes : VotesKnown bs seats
+  pub tips : TipsKnown bs seats
+  pub views : ViewsReached bs seats

@@ -12,6 +12,7 @@ ghost use Rattle.protocol.specs.declared.call.Call.TheVariants.{Fast, Slow, Show
 use crate::inner::Inner;
 use crate::seat::Seat;
 use book::block::Proposal;
+use book::design::Design;
 use book::pages::Book;
 use letters::letter::Letter;
 use quorum::rule::QuorumRule;
@@ -42,19 +43,7 @@ impl Inner {
     fn view_of(&self, b: u32) -> u32
         ensures { result ≡ (at self.now.book.blocks.items b).view }
     {
-        match self.book.find(b) {
-            Some(block) => block.view,
-            None => 0,
-        }
-    }
-
-    // Whether block b stands on block c.
-    fn stands(&self, b: u32, c: u32) -> bool
-        requires b_held { b < vec_len self.now.book.blocks }
-        requires c_held { c < vec_len self.now.book.blocks }
-        ensures { result ≡ stands self.now.book.blocks.items b c }
-    {
-        matches!(self.book.stands_on(b, c), Some(true))
+        self.book.find(b).map_or(0, |block| block.view)
     }
 
     // The tip of a seat after it was shown a commit point, which is taken if it stands on the tip.
@@ -63,10 +52,10 @@ impl Inner {
         requires commit_held { commit < vec_len self.now.book.blocks }
         ensures { result ≡ replied ((conflict self.now.book.blocks.items commit tip, CommitConflict) ∷ []) (if stands self.now.book.blocks.items commit tip then commit else tip) }
     {
-        if self.stands(commit, tip) {
+        if self.book.stands_on(commit, tip) == Some(true) {
             return Ok(commit);
         }
-        if self.stands(tip, commit) {
+        if self.book.stands_on(tip, commit) == Some(true) {
             return Ok(tip);
         }
         Err(Refusal::CommitConflict)
@@ -74,7 +63,6 @@ impl Inner {
 
     // Whether a seat votes for a block of this view: its own or a later one, and later than its last vote's.
     fn votes(&self, seat: &Seat, view: u32) -> bool
-        requires { seat.now.vote < vec_len self.now.book.blocks }
         ensures { result ≡ nat_le seat.now.view view && nat_lt (at self.now.book.blocks.items seat.now.vote).view view }
     {
         view >= seat.view && view > self.view_of(seat.vote)
@@ -91,7 +79,12 @@ impl Inner {
         ensures after { under R.QuorumRule rule.now (T.Rotation.leads rotation.now) self.new ≡ after (under R.QuorumRule rule.now (T.Rotation.leads rotation.now) self.old) (Fast proposal.now) }
     {
         let open_set = self.open_set;
-        self.book.fast(rule, rotation, open_set, proposal)
+        let design = Design {
+            rule,
+            rotation,
+            open_set,
+        };
+        self.book.fast(&design, proposal)
     }
 
     // A proposal on reports.
@@ -105,7 +98,12 @@ impl Inner {
         ensures after { under R.QuorumRule rule.now (T.Rotation.leads rotation.now) self.new ≡ after (under R.QuorumRule rule.now (T.Rotation.leads rotation.now) self.old) (Slow proposal.now) }
     {
         let open_set = self.open_set;
-        self.book.slow(rule, rotation, open_set, proposal)
+        let design = Design {
+            rule,
+            rotation,
+            open_set,
+        };
+        self.book.slow(&design, proposal)
     }
 
     // Whether a seat may be shown a block. Gives the tip that it has then.

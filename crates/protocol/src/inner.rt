@@ -1,5 +1,5 @@
 // What a cluster holds besides its rule and its rotation.
-ghost use Rattle.protocol.specs.Seated.{VotesKnown, TipsKnown, ViewsReached};
+ghost use Rattle.protocol.specs.Seated.{Seated};
 
 use crate::seat::Seat;
 use book::pages::Book;
@@ -11,7 +11,5 @@ pub struct Inner {
     pub book: Book,
     pub open_set: SeatSet,
     pub seats: [Seat; 64],
-    ghost votes_known: { VotesKnown book.blocks.items seats },
-    ghost tips_known: { TipsKnown book.blocks.items seats },
-    ghost views_reached: { ViewsReached book.blocks.items seats },
+    ghost seated: { Seated book.blocks.items seats },
 }

@@ -2,9 +2,11 @@
 #![tactic(auto)]
 
 ghost use Rattle.std.specs.Prelude.{◌≡◌, Some};
+ghost use Rattle.refusal.specs.declared.Refusal.TheVariants.{NoMemory};
 ghost use Rattle.refusal.specs.Numbers.{number_of};
 ghost use Rattle.refusal.specs.Sentences.{sentence_of};
 
+use std::alloc::AllocError;
 use std::fmt;
 
 // A reason to say no. A refused call changes nothing; where several reasons apply, the one with the smallest number is given.
@@ -82,6 +84,14 @@ impl Refusal {
                 "the record is out of place: one opening, first, and nothing before it",
             Refusal::NoMemory => "there is not enough memory",
         }
+    }
+}
+
+impl From<AllocError> for Refusal {
+    ghost from_gives = { λ _ r. r ≡ NoMemory };
+
+    fn from(_e: AllocError) -> Self {
+        Self::NoMemory
     }
 }
 

@@ -16,8 +16,8 @@ returns g c =
     let inner = c.new-2.result in
     let count : min c.seats-n.result 64 ≡ n = omega (arith, c.seats-n.ensures, seats_fit rule) in
     let blocks : vec_items inner.book.blocks ≡ genesis n ∷ [] =
-    ap (λ b. vec_items b.blocks) c.new-2.ensures.book ∙ c.in-Ok.ensures.pages.0 ∙ ap (λ k. genesis k ∷ []) count in
-    let letters = ap (λ b. vec_items b.letters) c.new-2.ensures.book ∙ c.in-Ok.ensures.pages.1 in
+    ap (λ b. vec_items b.blocks) c.new-2.ensures.book ∙ c.in_ok-book.ensures.pages.0 ∙ ap (λ k. genesis k ∷ []) count in
+    let letters = ap (λ b. vec_items b.letters) c.new-2.ensures.book ∙ c.in_ok-book.ensures.pages.1 in
     let is = state_fresh n quorum leads c.args.open_set.bits inner blocks letters c.new-2.ensures.seats (ap (λ q. q.bits) c.new-2.ensures.open_set) in
     let seated = ap (λ k. within k c.args.open_set.bits) (sym c.seats-n.ensures) ∙ sym c.is_within.ensures ∙ c.if-not-is_within.false in
     record {

@@ -5,10 +5,11 @@ use Rattle.refusal.proofs.Replies.{none_applies, passed_value, told_err, told_ok
 use Rattle.refusal.specs.declared.Refusal.TheVariants.{LettersFull}
 use Rattle.protocol.specs.Calls.{leave_reasons}
 use Rattle.protocol.specs.Held.{under}
+use Rattle.protocol.specs.Seated.{Seated}
 use Rattle.protocol.specs.State.{idle}
 use Rattle.protocol.specs.declared.seat.Seat.{Seat}
 use Rattle.protocol.proofs.Outcomes.{expire_refused, expire_passed, letter_left, letters_left, same_state}
-use Rattle.protocol.proofs.Seating.{Seated, seated_in, seated_set}
+use Rattle.protocol.proofs.Seating.{seated_set}
 use Rattle.protocol.proofs.inner.Inner.expire.Goals as goal
 
 pub returns-in_err-vote : goal.returns-in_err-vote
@@ -35,12 +36,11 @@ pub invariant_of-self-2 : goal.invariant_of-self-2
 invariant_of-self-2 g c =
     let inner = c.args.self.now in
     let bs = vec_items inner.book.blocks in
-    let seated = seated_in inner in
+    let seated = inner.seated in
     let before = get_or inner.seats c.args.seat idle in
     let me : Seat = record { view = c.args.view; vote = before.vote; tip = before.tip } in
     let then = seated_set bs inner.seats c.args.seat me seated (seated.votes c.args.seat) (seated.tips c.args.seat) (omega (arith, seated.views c.args.seat, leb-false _ _ (none_applies (leave_reasons (under g.R.QuorumRule c.args.rule.now (λ x. 0) inner) c.args.seat c.args.view) _ _ (c.in_ok-vote.ensures.reply (λ x. 0))).1.1.1.0)) in
-    let now = subst (λ xs. Seated xs (set inner.seats c.args.seat me)) (sym c.add_letter.ensures.blocks) then in
-    record { votes_known = now.votes; tips_known = now.tips; views_reached = now.views }
+    record { seated = subst (λ xs. Seated xs (set inner.seats c.args.seat me)) (sym c.add_letter.ensures.blocks) then }
 
 pub returns : goal.returns
 returns g c =

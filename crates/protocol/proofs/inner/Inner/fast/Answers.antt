@@ -3,5 +3,4 @@ use Rattle.protocol.proofs.inner.Inner.fast.Goals as goal
 
 pub invariant_of-self : goal.invariant_of-self
 invariant_of-self g c =
-    let now = seated_grown c.args.self.now _ _ _ c.fast.ensures.blocks in
-    record { votes_known = now.votes; tips_known = now.tips; views_reached = now.views }
+    record { seated = seated_grown c.args.self.now _ _ _ c.fast.ensures.blocks }

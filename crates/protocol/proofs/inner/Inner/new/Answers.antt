@@ -3,5 +3,4 @@ use Rattle.protocol.proofs.inner.Inner.new.Goals as goal
 
 pub invariant_of-result : goal.invariant_of-result
 invariant_of-result c =
-    let now = seated_idle c.args.book in
-    record { votes_known = now.votes; tips_known = now.tips; views_reached = now.views }
+    record { seated = seated_idle c.args.book }

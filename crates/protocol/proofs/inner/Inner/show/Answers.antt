@@ -2,10 +2,11 @@ use Rattle.std.proofs.Common.{true, false, get_or, set, Err, vec_items, sym, ap,
 use Rattle.std.proofs.lemmas.Result.{err_from_is_err_and}
 use Rattle.book.specs.Changes.{vote_after}
 use Rattle.book.proofs.Extends.{extends_vote}
+use Rattle.protocol.specs.Seated.{Seated}
 use Rattle.protocol.specs.State.{idle}
 use Rattle.protocol.specs.declared.seat.Seat.{Seat}
 use Rattle.protocol.proofs.Outcomes.{due_is, same_state, show_refused, show_passed}
-use Rattle.protocol.proofs.Seating.{Seated, seated_in, seated_extends, seated_set, tip_held}
+use Rattle.protocol.proofs.Seating.{seated_extends, seated_set, tip_held}
 use Rattle.protocol.proofs.inner.Inner.show.Goals as goal
 
 pub returns-in_err-tip : goal.returns-in_err-tip
@@ -19,11 +20,10 @@ pub invariant_of-self : goal.invariant_of-self
 invariant_of-self g c =
     let inner = c.args.self.now in
     let bs = vec_items inner.book.blocks in
-    let seated = seated_in inner in
+    let seated = inner.seated in
     let before = get_or inner.seats c.args.seat idle in
     let tip = tip_held g.R.QuorumRule c.args.rule.now inner c.args.seat c.args.block c.in_ok-tip.tip c.in_ok-tip.ensures.reply c.in_ok-tip.ensures.held.1 in
-    let then = seated_set bs inner.seats c.args.seat (record { view = before.view; vote = before.vote; tip = c.in_ok-tip.tip }) seated (seated.votes c.args.seat) tip (seated.views c.args.seat) in
-    record { votes_known = then.votes; tips_known = then.tips; views_reached = then.views }
+    record { seated = seated_set bs inner.seats c.args.seat (record { view = before.view; vote = before.vote; tip = c.in_ok-tip.tip }) seated (seated.votes c.args.seat) tip (seated.views c.args.seat) }
 
 pub returns-then-not-votes : goal.returns-then-not-votes
 returns-then-not-votes g c =
@@ -41,12 +41,11 @@ invariant_of-self-2 g c =
     let me : Seat = record { view = c.view_of-view.result; vote = c.args.block; tip = c.in_ok-tip.tip } in
     let cs = vote_after bs c.args.seat c.args.block in
     let then =
-    seated_set cs inner.seats c.args.seat me (seated_extends inner.seats extended (seated_in inner))
+    seated_set cs inner.seats c.args.seat me (seated_extends inner.seats extended inner.seated)
     (omega (arith, held, extended.longer))
     (omega (arith, tip, extended.longer))
     (omega (arith, c.view_of-view.ensures, (extended.each c.args.block held).view)) in
-    let now = subst (λ xs. Seated xs (set inner.seats c.args.seat me)) (sym c.add_vote.ensures.blocks) then in
-    record { votes_known = now.votes; tips_known = now.tips; views_reached = now.views }
+    record { seated = subst (λ xs. Seated xs (set inner.seats c.args.seat me)) (sym c.add_vote.ensures.blocks) then }
 
 pub returns : goal.returns
 returns g c =
