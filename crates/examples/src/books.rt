@@ -1,6 +1,7 @@
 // Small books of four seats, of which seat 3 is open; view v is led by seat v mod 4.
 use crate::common::{list, refused, weigh};
 use book::block::{Block, Kind, Proposal};
+use book::design::Design;
 use book::pages::Book;
 use letters::letter::Letter;
 use quorum::count::CountRule;
@@ -80,10 +81,14 @@ fn proposal(view: u32, parent: u32, heard: u64) -> Proposal {
 fn take(book: &mut Book, step: Step) -> Result<u32, Refusal> {
     let rule = CountRule::new(1)?;
     let turns = RoundRobin::new(4)?;
-    let open = SeatSet { bits: 8 };
+    let design = Design {
+        rule: &rule,
+        rotation: &turns,
+        open_set: SeatSet { bits: 8 },
+    };
     match step {
-        Step::Fast(v, p, heard) => book.fast(&rule, &turns, open, &proposal(v, p, heard)),
-        Step::Slow(v, p, heard) => book.slow(&rule, &turns, open, &proposal(v, p, heard)),
+        Step::Fast(v, p, heard) => book.fast(&design, &proposal(v, p, heard)),
+        Step::Slow(v, p, heard) => book.slow(&design, &proposal(v, p, heard)),
         Step::Vote(seat, block) => book.add_vote(seat, block),
         Step::Letter(seat, view, block) => book.add_letter(Letter { seat, view, block }),
     }
@@ -619,11 +624,15 @@ fn the_512th_letter_is_the_last(rt: HostRuntime) -> Result<(), Fail> {
 }
 
 fn asked(rt: &impl Abort, book: &mut Book, rule: &WeightRule, turns: &Listed) -> Result<(), Fail> {
-    let nobody = SeatSet { bits: 0 };
+    let design = Design {
+        rule,
+        rotation: turns,
+        open_set: SeatSet { bits: 0 },
+    };
     // seats 1 and 2 are no quorum
-    refused(rt, book.fast(rule, turns, nobody, &proposal(1, 0, 6)), 13)?;
+    refused(rt, book.fast(&design, &proposal(1, 0, 6)), 13)?;
     for &(number, parent, maker) in &[(1, 0, 2), (2, 1, 0)] {
-        let answer = book.fast(rule, turns, nobody, &proposal(number, parent, 1));
+        let answer = book.fast(&design, &proposal(number, parent, 1));
         enters(rt, book, answer, number, (parent, maker, 1))?;
     }
     Ok(())

@@ -1,9 +1,4 @@
 use Rattle.cluster.proofs.cluster.Cluster.letter.Goals as goal
 
-pub returns : goal.returns
-returns g c =
-    let leads = g.T.Rotation.leads c.args.self.now.rotation in
-    record {
-      reply = c.letter.ensures.reply leads;
-      after = c.letter.ensures.after leads;
-    }
+pub returns-clause-reply : goal.returns-clause-reply
+returns-clause-reply g c = c.letter.ensures.reply (g.T.Rotation.leads c.args.self.now.rotation)

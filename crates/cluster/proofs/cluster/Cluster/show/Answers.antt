@@ -1,9 +1,4 @@
 use Rattle.cluster.proofs.cluster.Cluster.show.Goals as goal
 
-pub returns : goal.returns
-returns g c =
-    let leads = g.T.Rotation.leads c.args.self.now.rotation in
-    record {
-      reply = c.show.ensures.reply leads;
-      after = c.show.ensures.after leads;
-    }
+pub returns-clause-reply : goal.returns-clause-reply
+returns-clause-reply g c = c.show.ensures.reply (g.T.Rotation.leads c.args.self.now.rotation)

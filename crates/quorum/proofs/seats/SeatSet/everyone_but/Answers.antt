@@ -1,10 +1,7 @@
 -- The seats of the set that are below n are its lowest n digits.
 use Rattle.std.proofs.Common.{◌-◌, ◌^◌, min, ap, ◌∙◌}
-use lib.Bits.{bit_and, and_comm, and_mask, and_le_l}
+use lib.Bits.{bit_and, and_comm, and_mask}
 use Rattle.quorum.proofs.seats.SeatSet.everyone_but.Goals as goal
-
-pub overflow_sub-result : goal.overflow_sub-result
-overflow_sub-result c = and_le_l c.everyone-everyone.result.bits c.args.self.bits
 
 pub returns : goal.returns
 returns c =

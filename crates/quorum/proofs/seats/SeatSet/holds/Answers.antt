@@ -1,12 +1,8 @@
 -- The bit that is tested is the digit worth 2 ^ seat; no set of 64 digits has one past the last.
-use Rattle.std.proofs.Common.{◌/◌, ◌^◌, ◌<◌, eqb, sym, ap, ◌∙◌, lt_of_lt_of_le, pow_mono, rules}
-use lib.Bits.{and_mask}
+use Rattle.std.proofs.Common.{◌^◌, ◌<◌, sym, ◌∙◌, lt_of_lt_of_le, pow_mono, rules}
 use Rattle.std.proofs.lemmas.Bool.{le-ltb}
 use Rattle.quorum.specs.Sets.{held_beyond}
 use Rattle.quorum.proofs.seats.SeatSet.holds.Goals as goal
-
-pub returns-then-seat-lt64-clause-told : goal.returns-then-seat-lt64-clause-told
-returns-then-seat-lt64-clause-told c = ap (λ x. eqb x 1) (and_mask (c.args.self.bits / 2 ^ c.args.seat) 1)
 
 pub returns-else-seat-lt64-clause-told : goal.returns-else-seat-lt64-clause-told
 returns-else-seat-lt64-clause-told c =

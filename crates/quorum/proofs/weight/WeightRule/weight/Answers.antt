@@ -1,5 +1,4 @@
-use Rattle.std.proofs.Common.{◌<◌, ◌≤◌, cond, length, get_or, vec_items, sym, ap, ◌∙◌, arith, take_all, rules}
-use Rattle.quorum.specs.Seats.{weight_of}
+use Rattle.std.proofs.Common.{◌<◌, cond, length, get_or, vec_items, sym, ap, ◌∙◌, arith, rules}
 use Rattle.quorum.specs.Weights.{weight_more}
 use Rattle.quorum.proofs.weight.WeightRule.weight.Goals as goal
 use Rattle.quorum.proofs.weight.WeightRule.weight.Goals.{then-holds, else-holds}
@@ -21,8 +20,3 @@ loop-seat-preserved c =
           let added = ap (λ b. cond b (get_or ws seat 0) 0) is in
           (omega (arith, w.sum-is, more, added), omega (arith, w.sum-is))
     ]
-
-pub returns : goal.returns
-returns c =
-    let whole : length (vec_items c.args.self.now.weights) ≤ c.loop-seat.seat = search rules in
-    c.loop-seat.invariant.0 ∙ ap (λ ws. weight_of ws c.args.set.bits) (take_all _ _ whole)
