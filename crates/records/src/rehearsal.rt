@@ -1,8 +1,9 @@
 // A rehearsal, record by record.
-ghost use Rattle.std.specs.Prelude.{◌≡◌, true, false, None};
+ghost use Rattle.std.specs.Prelude.{◌≡◌, true};
 ghost use Rattle.cluster.specs.Opening.{Opening};
 ghost use Rattle.protocol.specs.State.{fresh};
-ghost use Rattle.records.specs.Rehearsing.{rehearsed, rehearse_reasons, state_in, Opens, Plays};
+ghost use Rattle.records.specs.declared.rehearsal.Stage.TheVariants.{New};
+ghost use Rattle.records.specs.Rehearsing.{rehearsed, rehearse_reasons, state_in, started_in, cluster_in, Plays};
 
 use crate::record::Record;
 use cluster::cluster::Cluster;
@@ -27,51 +28,46 @@ fn open(
     Cluster::open(heap, rule, rotation, open_set)
 }
 
-// Whether a record was read, and the cluster, once it is open.
+// How far a rehearsal is.
+#[derive(Drop)]
+enum Stage {
+    // no record was read
+    New,
+    // records were read, and the first opened no cluster
+    Shut,
+    Open(Cluster<CountRule, RoundRobin>),
+}
+
 #[derive(Drop)]
 pub struct Rehearsal {
-    started: bool,
-    cluster: Option<Cluster<CountRule, RoundRobin>>,
+    stage: Stage,
 }
 
 impl Rehearsal {
     pub fn new() -> Rehearsal
-        ensures started { result.started ≡ false }
-        ensures cluster { result.cluster ≡ None }
+        ensures { result.stage ≡ New }
     {
-        Rehearsal {
-            started: false,
-            cluster: None,
-        }
-    }
-
-    // Opens by the first record.
-    fn start(&mut self, heap: Global, faults: u8, open_set: SeatSet) -> Result<u32, Refusal>
-        ensures plays { Opens faults open_set.bits self.old.cluster result self.new.cluster }
-        ensures started { self.new.started ≡ self.old.started }
-    {
-        let cluster = open(heap, faults, open_set)?;
-        self.cluster = Some(cluster);
-        Ok(3 * u32::from(faults) + 1)
+        Rehearsal { stage: Stage::New }
     }
 
     // Plays one record, as the reader gave it. Gives the number of seats for an opening, else what the call gives.
     pub fn play(&mut self, heap: Global, record: Result<Record, Refusal>) -> Result<u32, Refusal>
-        ensures plays { Plays «record» self.old.started self.old.cluster result self.new.cluster }
-        ensures started { self.new.started ≡ true }
+        ensures plays { Plays «record» (started_in self.old.stage) (cluster_in self.old.stage) result (cluster_in self.new.stage) }
+        ensures started { started_in self.new.stage ≡ true }
     {
-        let first = !self.started;
-        self.started = true;
+        let first = matches!(self.stage, Stage::New);
+        if first {
+            self.stage = Stage::Shut;
+        }
         match record? {
-            Record::Open { faults, open_set } => {
-                if !first {
-                    return Err(Refusal::RecordOutOfPlace);
-                }
-                self.start(heap, faults, open_set)
+            Record::Open { faults, open_set } if first => {
+                self.stage = Stage::Open(open(heap, faults, open_set)?);
+                Ok(3 * u32::from(faults) + 1)
             }
-            Record::Call(call) => match &mut self.cluster {
-                Some(cluster) => cluster.call(call),
-                None => Err(Refusal::RecordOutOfPlace),
+            Record::Open { .. } => Err(Refusal::RecordOutOfPlace),
+            Record::Call(call) => match &mut self.stage {
+                Stage::Open(cluster) => cluster.call(call),
+                _ => Err(Refusal::RecordOutOfPlace),
             },
         }
     }
