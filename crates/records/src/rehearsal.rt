@@ -50,25 +50,29 @@ impl Rehearsal {
         Rehearsal { stage: Stage::New }
     }
 
+    // Opens by a first record, and calls the cluster by a later one; any other is out of place.
+    fn answer(&mut self, heap: Global, record: Result<Record, Refusal>) -> Result<u32, Refusal>
+        ensures { Plays «record» (started_in self.old.stage) (cluster_in self.old.stage) result (cluster_in self.new.stage) }
+    {
+        match (record?, &mut self.stage) {
+            (Record::Open { faults, open_set }, stage @ Stage::New) => {
+                *stage = Stage::Open(open(heap, faults, open_set)?);
+                Ok(3 * u32::from(faults) + 1)
+            }
+            (Record::Call(call), Stage::Open(cluster)) => cluster.call(call),
+            _ => Err(Refusal::RecordOutOfPlace),
+        }
+    }
+
     // Plays one record, as the reader gave it. Gives the number of seats for an opening, else what the call gives.
     pub fn play(&mut self, heap: Global, record: Result<Record, Refusal>) -> Result<u32, Refusal>
         ensures plays { Plays «record» (started_in self.old.stage) (cluster_in self.old.stage) result (cluster_in self.new.stage) }
         ensures started { started_in self.new.stage ≡ true }
     {
-        let first = matches!(self.stage, Stage::New);
-        if first {
+        let answer = self.answer(heap, record);
+        if matches!(self.stage, Stage::New) {
             self.stage = Stage::Shut;
         }
-        match record? {
-            Record::Open { faults, open_set } if first => {
-                self.stage = Stage::Open(open(heap, faults, open_set)?);
-                Ok(3 * u32::from(faults) + 1)
-            }
-            Record::Open { .. } => Err(Refusal::RecordOutOfPlace),
-            Record::Call(call) => match &mut self.stage {
-                Stage::Open(cluster) => cluster.call(call),
-                _ => Err(Refusal::RecordOutOfPlace),
-            },
-        }
+        answer
     }
 }
