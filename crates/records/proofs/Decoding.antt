@@ -1,5 +1,5 @@
 -- A record at a place says what its own 32 bytes say.
-use Rattle.std.proofs.Common.{◌≡◌, ℕ, ◌+◌, ◌<◌, ◌≤◌, true, false, nat_lt, slice_index, List, length, take, drop, ◌∙◌, arith, add_assoc, add-zero}
+use Rattle.std.proofs.Common.{◌≡◌, ℕ, ◌+◌, ◌≤◌, true, false, nat_lt, slice_index, List, length, take, drop, ◌∙◌, arith, add_assoc, add-zero}
 use Rattle.std.proofs.lemmas.Bool.{ltb-true, le-ltb}
 use Rattle.std.proofs.lemmas.List.{get_or-take, get_or-drop, length-take, length-drop}
 use Rattle.records.specs.declared.record.Kind.{Kind}

@@ -1,5 +1,5 @@
 // The reader.
-ghost use Rattle.std.specs.Prelude.{◌≡◌, ◌-◌, length};
+ghost use Rattle.std.specs.Prelude.{◌≡◌, ◌+◌, ◌-◌, ◌/◌, length};
 ghost use Rattle.std.specs.Iterator.{at_most};
 ghost use Rattle.records.specs.Decoding.{yielded, beyond};
 
@@ -29,7 +29,7 @@ impl<'a> Iterator for Reader<'a> {
 
     ghost next_gives = { λ s r t. (r ≡ yielded s.bytes.now s.at) × (t.at ≡ beyond s.bytes.now s.at) × (t.bytes.now ≡ s.bytes.now) };
 
-    ghost remaining = { λ s. at_most (length s.bytes.now - s.at) };
+    ghost remaining = { λ s. at_most ((length s.bytes.now - s.at + 31) / 32) };
 
     fn next(&mut self) -> Option<Result<Record, Refusal>> {
         let at = self.at;

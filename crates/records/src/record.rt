@@ -84,7 +84,9 @@ fn set(bytes: &[u8; 32]) -> SeatSet
 fn is_spare_clear(bytes: &[u8; 32]) -> bool
     ensures { result ≡ spare_clear bytes.now 0 }
 {
-    [bytes[2], bytes[3], bytes[12], bytes[13], bytes[14], bytes[15]] == [0; 6]
+    [
+        bytes[2], bytes[3], bytes[12], bytes[13], bytes[14], bytes[15],
+    ] == [0; 6]
 }
 
 fn proposal(bytes: &[u8; 32]) -> Proposal
