@@ -47,7 +47,7 @@ impl TryFrom<u8> for Kind {
     }
 }
 
-// The N bytes from a place on.
+// The N bytes of a record from a place on.
 fn field<const N: usize>(bytes: &[u8; 32], at: usize) -> [u8; N]
     requires { at + N ≤ 32 }
     ensures { (k : ℕ) → k < N → slice_index result k ≡ slice_index bytes.now (at + k) }
@@ -81,6 +81,7 @@ fn set(bytes: &[u8; 32]) -> SeatSet
     }
 }
 
+// Whether the spare bytes are 0.
 fn is_spare_clear(bytes: &[u8; 32]) -> bool
     ensures { result ≡ spare_clear bytes.now 0 }
 {
@@ -100,20 +101,15 @@ fn proposal(bytes: &[u8; 32]) -> Proposal
     }
 }
 
-impl TryFrom<&[u8; 32]> for Record {
-    type Error = Refusal;
-
-    ghost try_from_gives = { λ bytes r. r ≡ decoded bytes.now 0 };
-
-    fn try_from(bytes: &[u8; 32]) -> Result<Record, Refusal> {
-        let kind = Kind::try_from(bytes[0])?;
-        if !is_spare_clear(bytes) {
-            return Err(Refusal::SpareByteNotZero);
-        }
+impl Kind {
+    // The record of this kind.
+    fn record(self, bytes: &[u8; 32]) -> Record
+        ensures { result ≡ record_of self bytes.now 0 }
+    {
         let seat = bytes[1];
         let view = view(bytes);
         let block = block(bytes);
-        Ok(match kind {
+        match self {
             Kind::Open => Record::Open {
                 faults: seat,
                 open_set: set(bytes),
@@ -124,6 +120,20 @@ impl TryFrom<&[u8; 32]> for Record {
             Kind::Expire => Record::Call(Call::Expire { seat, view }),
             Kind::Vote => Record::Call(Call::Vote { seat, block }),
             Kind::Letter => Record::Call(Call::Letter(Letter { seat, view, block })),
-        })
+        }
+    }
+}
+
+impl TryFrom<&[u8; 32]> for Record {
+    type Error = Refusal;
+
+    ghost try_from_gives = { λ bytes r. r ≡ decoded bytes.now 0 };
+
+    fn try_from(bytes: &[u8; 32]) -> Result<Record, Refusal> {
+        let kind = Kind::try_from(bytes[0])?;
+        if !is_spare_clear(bytes) {
+            return Err(Refusal::SpareByteNotZero);
+        }
+        Ok(kind.record(bytes))
     }
 }
