@@ -34,7 +34,7 @@ enum Stage {
     // no record was read
     New,
     // records were read, and the first opened no cluster
-    Shut,
+    Unopened,
     Open(Cluster<CountRule, RoundRobin>),
 }
 
@@ -71,7 +71,7 @@ impl Rehearsal {
     {
         let answer = self.answer(heap, record);
         if matches!(self.stage, Stage::New) {
-            self.stage = Stage::Shut;
+            self.stage = Stage::Unopened;
         }
         answer
     }
