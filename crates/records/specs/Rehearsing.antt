@@ -16,6 +16,8 @@ use Rattle.protocol.specs.State.{State, fresh}
 use Rattle.cluster.specs.declared.cluster.Cluster.{Cluster}
 use Rattle.records.specs.declared.record.Record.{Record}
 use Rattle.records.specs.declared.record.Record.TheVariants.{Open as OpenRecord, Call as CallRecord}
+use Rattle.records.specs.declared.rehearsal.Stage.{Stage}
+use Rattle.records.specs.declared.rehearsal.Stage.TheVariants.{New, Unopened, Open}
 
 -- the count rule for f faulty seats, and the round robin with no first seat named
 abbrev pub rehearsed : ℕ → ℕ → Design
@@ -27,6 +29,17 @@ rehearse_reasons f open_set = (nat_lt 21 f, FaultsOutOfRange) ∷ (not (within (
 
 abbrev pub state_in : Cluster CountRule RoundRobin → State
 state_in c = held_by (seats_for c.rule.faults) (count_quorum c.rule.faults) (robin_leads c.rotation.seats c.rotation.first) c.inner
+
+-- whether a record was read, and the cluster, once it is open
+abbrev pub started_in : Stage → Bool
+started_in New = false
+started_in Unopened = true
+started_in (Open c) = true
+
+abbrev pub cluster_in : Stage → Option (Cluster CountRule RoundRobin)
+cluster_in New = None
+cluster_in Unopened = None
+cluster_in (Open c) = Some c
 
 -- a cluster is there, in this state
 abbrev pub Holding : Option (Cluster CountRule RoundRobin) → State → Type 0

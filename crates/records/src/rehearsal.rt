@@ -1,8 +1,9 @@
 // A rehearsal, record by record.
-ghost use Rattle.std.specs.Prelude.{◌≡◌, true, false, None};
+ghost use Rattle.std.specs.Prelude.{◌≡◌, true};
 ghost use Rattle.cluster.specs.Opening.{Opening};
 ghost use Rattle.protocol.specs.State.{fresh};
-ghost use Rattle.records.specs.Rehearsing.{rehearsed, rehearse_reasons, state_in, Opens, Plays};
+ghost use Rattle.records.specs.declared.rehearsal.Stage.TheVariants.{New};
+ghost use Rattle.records.specs.Rehearsing.{rehearsed, rehearse_reasons, state_in, started_in, cluster_in, Plays};
 
 use crate::record::Record;
 use cluster::cluster::Cluster;
@@ -27,52 +28,51 @@ fn open(
     Cluster::open(heap, rule, rotation, open_set)
 }
 
-// Whether a record was read, and the cluster, once it is open.
+// How far a rehearsal is.
+#[derive(Drop)]
+enum Stage {
+    // no record was read
+    New,
+    // records were read, and the first opened no cluster
+    Unopened,
+    Open(Cluster<CountRule, RoundRobin>),
+}
+
 #[derive(Drop)]
 pub struct Rehearsal {
-    started: bool,
-    cluster: Option<Cluster<CountRule, RoundRobin>>,
+    stage: Stage,
 }
 
 impl Rehearsal {
     pub fn new() -> Rehearsal
-        ensures started { result.started ≡ false }
-        ensures cluster { result.cluster ≡ None }
+        ensures { result.stage ≡ New }
     {
-        Rehearsal {
-            started: false,
-            cluster: None,
-        }
+        Rehearsal { stage: Stage::New }
     }
 
-    // Opens by the first record.
-    fn start(&mut self, heap: Global, faults: u8, open_set: SeatSet) -> Result<u32, Refusal>
-        ensures plays { Opens faults open_set.bits self.old.cluster result self.new.cluster }
-        ensures started { self.new.started ≡ self.old.started }
+    // Opens by a first record, and calls the cluster by a later one; any other is out of place.
+    fn answer(&mut self, heap: Global, record: Result<Record, Refusal>) -> Result<u32, Refusal>
+        ensures { Plays «record» (started_in self.old.stage) (cluster_in self.old.stage) result (cluster_in self.new.stage) }
     {
-        let cluster = open(heap, faults, open_set)?;
-        self.cluster = Some(cluster);
-        Ok(3 * u32::from(faults) + 1)
+        match (record?, &mut self.stage) {
+            (Record::Open { faults, open_set }, stage @ Stage::New) => {
+                *stage = Stage::Open(open(heap, faults, open_set)?);
+                Ok(3 * u32::from(faults) + 1)
+            }
+            (Record::Call(call), Stage::Open(cluster)) => cluster.call(call),
+            _ => Err(Refusal::RecordOutOfPlace),
+        }
     }
 
     // Plays one record, as the reader gave it. Gives the number of seats for an opening, else what the call gives.
     pub fn play(&mut self, heap: Global, record: Result<Record, Refusal>) -> Result<u32, Refusal>
-        ensures plays { Plays «record» self.old.started self.old.cluster result self.new.cluster }
-        ensures started { self.new.started ≡ true }
+        ensures plays { Plays «record» (started_in self.old.stage) (cluster_in self.old.stage) result (cluster_in self.new.stage) }
+        ensures started { started_in self.new.stage ≡ true }
     {
-        let first = !self.started;
-        self.started = true;
-        match record? {
-            Record::Open { faults, open_set } => {
-                if !first {
-                    return Err(Refusal::RecordOutOfPlace);
-                }
-                self.start(heap, faults, open_set)
-            }
-            Record::Call(call) => match &mut self.cluster {
-                Some(cluster) => cluster.call(call),
-                None => Err(Refusal::RecordOutOfPlace),
-            },
+        let answer = self.answer(heap, record);
+        if matches!(self.stage, Stage::New) {
+            self.stage = Stage::Unopened;
         }
+        answer
     }
 }

@@ -5,45 +5,28 @@ use records::reader::Reader;
 use records::rehearsal::Rehearsal;
 use refusal::Refusal;
 use std::alloc::Global;
-use std::io::{BufWriter, Read, Write};
+use std::io::{self, BufWriter, Read, Write};
 use std::process::ExitCode;
-use std::{fmt, io};
+use thiserror::Error;
 
 // At most so many records are read, and so many bytes.
-const MOST_RECORDS: u32 = 4096;
+const MOST_RECORDS: usize = 4096;
 
 const MOST_BYTES: u64 = 131_072;
 
 // Why it ended early.
-#[derive(Debug, Drop)]
+#[derive(Debug, Drop, Error)]
 enum Fault {
+    #[error("there is no memory for a cluster")]
     NoMemory,
-    Io(io::Error),
-}
-
-impl From<io::Error> for Fault {
-    fn from(e: io::Error) -> Fault {
-        Fault::Io(e)
-    }
-}
-
-impl fmt::Display for Fault {
-    fn fmt<W: fmt::Write>(&self, f: &mut fmt::Formatter<W>) -> fmt::Result {
-        match self {
-            Fault::NoMemory => write!(f, "there is no memory for a cluster"),
-            Fault::Io(e) => write!(f, "{e}"),
-        }
-    }
+    #[error(transparent)]
+    Io(#[from] io::Error),
 }
 
 // A line for each record: its number from 0, and what came of it.
 fn play<W: Write>(heap: Global, bytes: &[u8], out: &mut W) -> Result<(), Fault> {
-    let mut reader = Reader::new(bytes);
     let mut rehearsal = Rehearsal::new();
-    for number in 0..MOST_RECORDS {
-        let Some(record) = reader.next() else {
-            break;
-        };
+    for (number, record) in Reader::new(bytes).take(MOST_RECORDS).enumerate() {
         match rehearsal.play(heap, record) {
             Ok(answer) => writeln!(out, "{number} ok {answer}")?,
             Err(Refusal::NoMemory) => return Err(Fault::NoMemory),
