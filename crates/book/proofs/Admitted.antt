@@ -1,6 +1,6 @@
 -- The promises of admission, from its two equations.
 -- Assumes nothing.
-use Rattle.std.proofs.Common.{◌≡◌, ℕ, Bool, true, false, List, length, is_ok, Ok, Err, Decides, Result, sym, refl, ap, subst, arith}
+use Rattle.std.proofs.Common.{◌≡◌, ℕ, Bool, true, false, List, length, is_ok, Ok, Err, Decides, Result, sym, refl, ap, ◌∙◌, subst, arith}
 use Rattle.std.proofs.lemmas.Bool.{both_ways}
 use Rattle.quorum.specs.Laws.{QuorumLaws}
 use Rattle.refusal.proofs.Replies.{replied_least}
@@ -15,7 +15,7 @@ use Rattle.book.specs.declared.block.Block.{Block}
 use Rattle.book.specs.declared.block.Kind.TheVariants.{Fast as FastKind, Slow as SlowKind}
 use Rattle.letters.specs.declared.letter.Letter.{Letter}
 use Rattle.book.specs.declared.block.Proposal.{Proposal}
-use Rattle.book.proofs.Entries.{can_enter, slow_certificate_held}
+use Rattle.book.proofs.Entries.{can_enter, fast_kept, slow_kept, slow_certificate_held}
 use Rattle.book.proofs.Growth.{known_push, no_report}
 use Rattle.book.proofs.Reports.{latest_held, letter_latest, reports_held}
 use Rattle.book.proofs.Justify.{fast_justified, justified_fast, slow_justified, justified_slow}
@@ -78,6 +78,13 @@ module _
           least = subst (Least (slow_reasons d bs ls p)) (sym e) (replied_least 0 (slow_reasons d bs ls p) (length bs) tt);
           lawful = λ well. subst (WellMade d) (sym f) (slow_lawful well);
         }
+
+    -- a refusal leaves all as it was
+    pub fast_refused : (r : Result ℕ Refusal) (e : Refusal) → r ≡ Err e → fast_reply d bs p ≡ Err e → FastAdmission d bs ls p r bs ls
+    fast_refused r e is out = fast_admission r bs ls (is ∙ sym out) (sym (fast_kept d bs p e out)) refl
+
+    pub slow_refused : (r : Result ℕ Refusal) (e : Refusal) → r ≡ Err e → slow_reply d bs ls p ≡ Err e → SlowAdmission d bs ls p r bs ls
+    slow_refused r e is out = slow_admission r bs ls (is ∙ sym out) (sym (slow_kept d bs ls p e out)) refl
 
     -- and the book stays known
     pub fast_known : Known (fast_blocks d bs p) ls

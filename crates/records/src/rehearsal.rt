@@ -38,6 +38,7 @@ enum Stage {
     Open(Cluster<CountRule, RoundRobin>),
 }
 
+// A rehearsal: how far it is, and its cluster, once that is open.
 #[derive(Drop)]
 pub struct Rehearsal {
     stage: Stage,

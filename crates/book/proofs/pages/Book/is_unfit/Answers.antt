@@ -3,14 +3,11 @@ use Rattle.book.specs.Admission.{any_below, reports_higher}
 use Rattle.book.proofs.Reports.{gathered_held, gathered_outrank}
 use Rattle.book.proofs.pages.Book.is_unfit.Goals as goal
 
-pub is_outranked-requires : goal.is_outranked-requires
-is_outranked-requires c =
+pub is_outranked-requires-clause-reports_held : goal.is_outranked-requires-clause-reports_held
+is_outranked-requires-clause-reports_held c =
     let book = c.args.self.now in
     let p = c.args.proposal.now in
-    record {
-      parent_held = c.requires.parent_held;
-      reports_held = λ s. let held = gathered_held _ _ book.known p.heard p.view _ c.requires.told s in omega (arith, held, book.blocks.ok.0);
-    }
+    λ s. let held = gathered_held _ _ book.known p.heard p.view _ c.requires.told s in omega (arith, held, book.blocks.ok.0)
 
 pub returns-else-not-contain : goal.returns-else-not-contain
 returns-else-not-contain c =
