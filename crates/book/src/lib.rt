@@ -2,6 +2,7 @@
 #![tactic(auto)]
 
 mod admission;
+mod base;
 pub mod block;
 mod certificate;
 mod chain;
