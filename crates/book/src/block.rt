@@ -6,7 +6,7 @@ ghost use Rattle.book.specs.Questions.{origin_told, report_told};
 use quorum::seats::SeatSet;
 
 // How a block was justified. The first block needs no justification.
-#[derive(Clone, Copy)]
+#[derive(Clone, Copy, Debug, PartialEq, Eq)]
 pub enum Kind {
     First,
     Fast,
@@ -58,7 +58,7 @@ pub struct Block {
 }
 
 // What the first block has none of.
-#[derive(Clone, Copy)]
+#[derive(Clone, Copy, Debug, PartialEq, Eq)]
 pub struct Origin {
     // the block that it stands on
     pub parent: u32,

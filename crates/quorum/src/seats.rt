@@ -3,7 +3,7 @@ ghost use Rattle.std.specs.Prelude.{◌≡◌, min};
 ghost use Rattle.quorum.specs.Seats.{held, within, with_seat, subset, union, everyone, everyone_but, how_many};
 
 // A set of the seats 0 to 63: seat s is the bit worth 2^s.
-#[derive(Clone, Copy)]
+#[derive(Clone, Copy, Debug, PartialEq, Eq)]
 pub struct SeatSet {
     pub bits: u64,
 }

@@ -8,7 +8,7 @@ ghost use Rattle.refusal.specs.Sentences.{sentence_of};
 use std::fmt;
 
 // A reason to say no. A refused call changes nothing; where several reasons apply, the one with the smallest number is given.
-#[derive(Clone, Copy, Debug)]
+#[derive(Clone, Copy, Debug, PartialEq, Eq)]
 pub enum Refusal {
     SeatCountsDiffer = 1,
     UnknownSeatInSet = 2,
