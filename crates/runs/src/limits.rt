@@ -15,6 +15,16 @@ pub const START: &[Row] = &[
     Row::Shows(2),
 ];
 
+// A letter of the open seat.
+pub const LETTER: Call = Call::Letter(Letter {
+    seat: 3,
+    view: 5,
+    block: 0,
+});
+
+// A block of view 3, whose leader is open.
+pub const BLOCK: Call = Call::Fast(proposal!(3, 2, 7));
+
 const LIMITS: &[Row] = &[
     Row::Tells(
         "expire to view 1000001 (expected a refusal, 5): ",
@@ -32,45 +42,14 @@ const LIMITS: &[Row] = &[
         },
         "",
     ),
-    // blocks of view 3, whose leader is open: 255 with those that there are
-    Row::Repeats(Call::Fast(proposal!(3, 2, 7)), 252),
-    Row::Tells(
-        "the 256th block (expected 255): ",
-        Call::Fast(proposal!(3, 2, 7)),
-        "",
-    ),
-    Row::Tells(
-        "one more (expected a refusal, 11): ",
-        Call::Fast(proposal!(3, 2, 7)),
-        "",
-    ),
-    // letters of the open seat: 511 with seat 0's
-    Row::Repeats(
-        Call::Letter(Letter {
-            seat: 3,
-            view: 5,
-            block: 0,
-        }),
-        510,
-    ),
-    Row::Tells(
-        "the 512th letter (expected 512): ",
-        Call::Letter(Letter {
-            seat: 3,
-            view: 5,
-            block: 0,
-        }),
-        "",
-    ),
-    Row::Tells(
-        "one more (expected a refusal, 10): ",
-        Call::Letter(Letter {
-            seat: 3,
-            view: 5,
-            block: 0,
-        }),
-        "",
-    ),
+    // 255 blocks with those that there are
+    Row::Repeats(BLOCK, 252),
+    Row::Tells("the 256th block (expected 255): ", BLOCK, ""),
+    Row::Tells("one more (expected a refusal, 11): ", BLOCK, ""),
+    // 511 letters with seat 0's
+    Row::Repeats(LETTER, 510),
+    Row::Tells("the 512th letter (expected 512): ", LETTER, ""),
+    Row::Tells("one more (expected a refusal, 10): ", LETTER, ""),
 ];
 
 fn seats_for(faults: u8) -> Result<u32, Refusal> {

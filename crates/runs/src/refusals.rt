@@ -1,5 +1,5 @@
 // Every refusal once.
-use crate::limits::START;
+use crate::limits::{BLOCK, LETTER, START};
 use crate::table::{Four, Row, four, proposal, refused};
 use crate::{Fault, table};
 use cluster::cluster::Cluster;
@@ -33,17 +33,10 @@ const CALLS: &[Row] = &[
     Row::Refuses(Refusal::HeardNoQuorum, Call::Fast(proposal!(3, 2, 3))),
     Row::Refuses(Refusal::HeardSeatSilent, Call::Fast(proposal!(3, 2, 15))),
     Row::Refuses(Refusal::ParentUnfit, Call::Fast(proposal!(4, 2, 7))),
-    Row::Repeats(
-        Call::Letter(Letter {
-            seat: 3,
-            view: 5,
-            block: 0,
-        }),
-        512,
-    ),
+    Row::Repeats(LETTER, 512),
     Row::Refuses(Refusal::LettersFull, Call::Expire { seat: 0, view: 5 }),
-    Row::Repeats(Call::Fast(proposal!(3, 2, 7)), 253),
-    Row::Refuses(Refusal::BlocksFull, Call::Fast(proposal!(3, 2, 7))),
+    Row::Repeats(BLOCK, 253),
+    Row::Refuses(Refusal::BlocksFull, BLOCK),
 ];
 
 // With three open seats, which the rule does not tolerate, two branches are committed, and seat 0 is shown both.
