@@ -1,12 +1,10 @@
 // Every refusal once.
 use crate::limits::{BLOCK, LETTER, START};
-use crate::table::{Four, Row, four, proposal, refused};
+use crate::table::{Row, open, proposal, refused};
 use crate::{Fault, table};
-use cluster::cluster::Cluster;
 use letters::letter::Letter;
 use protocol::call::Call;
 use quorum::count::CountRule;
-use quorum::seats::SeatSet;
 use quorum::weight::WeightRule;
 use records::reader::Reader;
 use records::rehearsal::Rehearsal;
@@ -57,16 +55,6 @@ const CONFLICT: &[Row] = &[
     Row::Refuses(Refusal::CommitConflict, Call::Show { seat: 0, block: 6 }),
 ];
 
-// Rule and rotation of different numbers of seats.
-fn mismatched(rt: &HostRuntime) -> Result<Four, Refusal> {
-    Cluster::open(
-        rt.alloc(),
-        CountRule::new(1)?,
-        RoundRobin::new(5)?,
-        SeatSet { bits: 8 },
-    )
-}
-
 fn rules(rt: &HostRuntime) -> Result<(), Fault> {
     refused(rt, Refusal::FaultsOutOfRange, CountRule::new(22))?;
     refused(
@@ -113,8 +101,8 @@ fn records(rt: &HostRuntime) -> Result<(), Fault> {
 
 pub fn play(rt: &HostRuntime) -> Result<(), Fault> {
     println!(rt; "every refusal once")?;
-    refused(rt, Refusal::SeatCountsDiffer, mismatched(rt))?;
-    refused(rt, Refusal::UnknownSeatInSet, four(rt, 16))?;
+    refused(rt, Refusal::SeatCountsDiffer, open(rt, 5, 8))?;
+    refused(rt, Refusal::UnknownSeatInSet, open(rt, 4, 16))?;
     table::play(rt, 8, &[START, CALLS])?;
     table::play(rt, 14, &[CONFLICT])?;
     rules(rt)?;

@@ -3,7 +3,6 @@ use crate::Fault;
 use cluster::cluster::Cluster;
 use protocol::call::Call;
 use quorum::count::CountRule;
-use quorum::rule::QuorumRule;
 use quorum::seats::SeatSet;
 use refusal::Refusal;
 use rotation::robin::RoundRobin;
@@ -44,10 +43,10 @@ pub enum Row {
     Refuses(Refusal, Call),
 }
 
-// Four seats, of which those of a set are open.
-pub fn four(rt: &HostRuntime, open_set: u64) -> Result<Four, Refusal> {
+// Four seats, of which those of a set are open, by a rotation of so many.
+pub fn open(rt: &HostRuntime, seats: u8, open_set: u64) -> Result<Four, Refusal> {
     let rule = CountRule::new(1)?;
-    let rotation = RoundRobin::new(rule.seats())?;
+    let rotation = RoundRobin::new(seats)?;
     Cluster::open(rt.alloc(), rule, rotation, SeatSet { bits: open_set })
 }
 
@@ -145,7 +144,7 @@ impl<'a> Player<'a> {
 
 // Plays rows, part by part, on a new cluster in which the seats of a set are open.
 pub fn play(rt: &HostRuntime, open_set: u64, parts: &[&[Row]]) -> Result<(), Fault> {
-    let cluster = four(rt, open_set)?;
+    let cluster = open(rt, 4, open_set)?;
     let mut player = Player { rt, cluster };
     for &row in parts.iter().copied().flatten() {
         player.play(row)?;
