@@ -32,27 +32,6 @@ enum Fault {
     Io(#[from] io::Error),
 }
 
-#[derive(Drop)]
-enum Rule {
-    Count(CountRule),
-    Weight(WeightRule),
-}
-
-impl Rule {
-    fn seats(&self) -> u8 {
-        match self {
-            Rule::Count(count) => count.seats(),
-            Rule::Weight(weight) => weight.seats(),
-        }
-    }
-}
-
-#[derive(Drop)]
-enum Turns {
-    RoundRobin(RoundRobin),
-    Listed(Listed),
-}
-
 // A number that its place has no room for is refused as that place refuses numbers out of its range.
 fn read<T: TryFrom<u64, Error: Drop>>(text: &str, refusal: Refusal) -> Result<T, Fault> {
     let number: u64 = text.parse().map_err(|_| Fault::Unreadable)?;
@@ -71,38 +50,68 @@ fn read_list<T: TryFrom<u64, Error: Drop> + Drop>(
     Ok(items)
 }
 
-fn read_rule(heap: Global, word: &str) -> Result<Rule, Fault> {
-    match word.split_once(':') {
-        Some(("count", f)) => {
-            let faults = read(f, Refusal::FaultsOutOfRange)?;
-            Ok(Rule::Count(CountRule::new(faults)?))
+#[derive(Drop)]
+enum Rule {
+    Count(CountRule),
+    Weight(WeightRule),
+}
+
+impl Rule {
+    fn read(heap: Global, word: &str) -> Result<Rule, Fault> {
+        match word.split_once(':') {
+            Some(("count", f)) => {
+                let faults = read(f, Refusal::FaultsOutOfRange)?;
+                Ok(Rule::Count(CountRule::new(faults)?))
+            }
+            Some(("weights", list)) => {
+                let weights = read_list(heap, list, Refusal::WeightsOutOfRange)?;
+                Ok(Rule::Weight(WeightRule::new(weights)?))
+            }
+            _ => Err(Fault::Unreadable),
         }
-        Some(("weights", list)) => {
-            let weights = read_list(heap, list, Refusal::WeightsOutOfRange)?;
-            Ok(Rule::Weight(WeightRule::new(weights)?))
+    }
+
+    fn seats(&self) -> u8 {
+        match self {
+            Rule::Count(count) => count.seats(),
+            Rule::Weight(weight) => weight.seats(),
         }
-        _ => Err(Fault::Unreadable),
+    }
+
+    // The number of seats, and which sets of them decide or are tolerated.
+    fn show(&self, rt: &HostRuntime) -> io::Result<()> {
+        match self {
+            Rule::Count(count) => show_count(rt, count),
+            Rule::Weight(weight) => show_weight(rt, weight),
+        }
     }
 }
 
-fn read_turns(heap: Global, word: &str, n: u8) -> Result<Turns, Fault> {
-    if word == "round-robin" {
-        return Ok(Turns::RoundRobin(RoundRobin::new(n)?));
-    }
-    match word.split_once(':') {
-        Some(("round-robin", first)) => {
-            let first = read(first, Refusal::RotationOutOfRange)?;
-            Ok(Turns::RoundRobin(RoundRobin::starting_at(n, first)?))
+#[derive(Drop)]
+enum Turns {
+    RoundRobin(RoundRobin),
+    Listed(Listed),
+}
+
+impl Turns {
+    fn read(heap: Global, word: &str, n: u8) -> Result<Turns, Fault> {
+        if word == "round-robin" {
+            return Ok(Turns::RoundRobin(RoundRobin::new(n)?));
         }
-        Some(("list", list)) => {
-            let order = read_list(heap, list, Refusal::RotationOutOfRange)?;
-            Ok(Turns::Listed(Listed::new(n, order)?))
+        match word.split_once(':') {
+            Some(("round-robin", first)) => {
+                let first = read(first, Refusal::RotationOutOfRange)?;
+                Ok(Turns::RoundRobin(RoundRobin::starting_at(n, first)?))
+            }
+            Some(("list", list)) => {
+                let order = read_list(heap, list, Refusal::RotationOutOfRange)?;
+                Ok(Turns::Listed(Listed::new(n, order)?))
+            }
+            _ => Err(Fault::Unreadable),
         }
-        _ => Err(Fault::Unreadable),
     }
 }
 
-// The number of seats, and which sets of them decide or are tolerated.
 fn show_count(rt: &HostRuntime, count: &CountRule) -> io::Result<()> {
     println!(rt;
         "seats      {}\nquorum     {} or more seats\ntolerated  {} or fewer seats",
@@ -125,13 +134,6 @@ fn show_weight(rt: &HostRuntime, weight: &WeightRule) -> io::Result<()> {
     )
 }
 
-fn show_rule(rt: &HostRuntime, rule: &Rule) -> io::Result<()> {
-    match rule {
-        Rule::Count(count) => show_count(rt, count),
-        Rule::Weight(weight) => show_weight(rt, weight),
-    }
-}
-
 fn show_next_turn(rt: &HostRuntime, seat: u8, turn: Option<u32>) -> io::Result<()> {
     match turn {
         Some(turn) => println!(rt; "{seat:<7}  {turn}"),
@@ -141,20 +143,19 @@ fn show_next_turn(rt: &HostRuntime, seat: u8, turn: Option<u32>) -> io::Result<(
 
 // What is shown of a rotation: so many views from one on, and the next turns from there.
 #[derive(Drop)]
-struct Span<'a, T> {
+struct Span<'a> {
     rt: &'a HostRuntime,
-    turns: &'a T,
     views: u32,
     from: u32,
 }
 
-impl<'a, T: Rotation> Span<'a, T> {
+impl<'a> Span<'a> {
     // The leader of each view shown.
-    fn show_leaders(&self) -> io::Result<()> {
+    fn show_leaders<T: Rotation>(&self, turns: &T) -> io::Result<()> {
         let end = self.from.saturating_add(self.views).min(LAST_VIEW + 1);
         println!(self.rt; "\nview     leader")?;
         for view in self.from..end {
-            if let Some(leader) = self.turns.leader(view) {
+            if let Some(leader) = turns.leader(view) {
                 println!(self.rt; "{view:<7}  {leader}")?;
             }
         }
@@ -162,17 +163,17 @@ impl<'a, T: Rotation> Span<'a, T> {
     }
 
     // Each seat's next turn.
-    fn show_next_turns(&self) -> io::Result<()> {
+    fn show_next_turns<T: Rotation>(&self, turns: &T) -> io::Result<()> {
         println!(self.rt; "\nseat     next turn from view {}", self.from)?;
-        for seat in 0..self.turns.seats() {
-            show_next_turn(self.rt, seat, self.turns.next_turn(seat, self.from))?;
+        for seat in 0..turns.seats() {
+            show_next_turn(self.rt, seat, turns.next_turn(seat, self.from))?;
         }
         Ok(())
     }
 
-    fn show(&self) -> io::Result<()> {
-        self.show_leaders()?;
-        self.show_next_turns()
+    fn show<T: Rotation>(&self, turns: &T) -> io::Result<()> {
+        self.show_leaders(turns)?;
+        self.show_next_turns(turns)
     }
 }
 
@@ -196,26 +197,15 @@ fn answer(rt: &HostRuntime, words: &[String]) -> Result<(), Fault> {
         [rule, turns, views, from] => (rule, turns, views, Some(from.as_str())),
         _ => return Err(Fault::Unreadable),
     };
-    let rule = read_rule(rt.alloc(), rule)?;
-    let turns = read_turns(rt.alloc(), turns, rule.seats())?;
+    let rule = Rule::read(rt.alloc(), rule)?;
+    let turns = Turns::read(rt.alloc(), turns, rule.seats())?;
     let views = read_view(views)?;
     let from = read_from(from)?;
-    show_rule(rt, &rule)?;
+    let span = Span { rt, views, from };
+    rule.show(rt)?;
     match &turns {
-        Turns::RoundRobin(turns) => Span {
-            rt,
-            turns,
-            views,
-            from,
-        }
-        .show()?,
-        Turns::Listed(turns) => Span {
-            rt,
-            turns,
-            views,
-            from,
-        }
-        .show()?,
+        Turns::RoundRobin(robin) => span.show(robin)?,
+        Turns::Listed(listed) => span.show(listed)?,
     }
     Ok(())
 }
