@@ -77,12 +77,31 @@ impl Rule {
             Rule::Weight(weight) => weight.seats(),
         }
     }
+}
 
-    // The number of seats, and which sets of them decide or are tolerated.
-    fn show(&self, rt: &HostRuntime) -> io::Result<()> {
+// The number of seats, and which sets of them decide or are tolerated.
+impl fmt::Display for Rule {
+    fn fmt<W: fmt::Write>(&self, f: &mut fmt::Formatter<W>) -> fmt::Result {
         match self {
-            Rule::Count(count) => show_count(rt, count),
-            Rule::Weight(weight) => show_weight(rt, weight),
+            Rule::Count(count) => write!(
+                f,
+                "seats      {}\n\
+                 quorum     {} or more seats\n\
+                 tolerated  {} or fewer seats",
+                count.seats(),
+                count.decisive(),
+                count.faults()
+            ),
+            Rule::Weight(weight) => write!(
+                f,
+                "seats      {}, together of weight {}\n\
+                 quorum     {} or more of the weight\n\
+                 tolerated  {} or less of the weight",
+                weight.seats(),
+                weight.total(),
+                weight.decisive(),
+                weight.tolerable()
+            ),
         }
     }
 }
@@ -110,28 +129,6 @@ impl Turns {
             _ => Err(Fault::Unreadable),
         }
     }
-}
-
-fn show_count(rt: &HostRuntime, count: &CountRule) -> io::Result<()> {
-    println!(rt;
-        "seats      {}\nquorum     {} or more seats\ntolerated  {} or fewer seats",
-        count.seats(),
-        count.decisive(),
-        count.faults()
-    )
-}
-
-fn show_weight(rt: &HostRuntime, weight: &WeightRule) -> io::Result<()> {
-    println!(rt;
-        "seats      {}, together of weight {}",
-        weight.seats(),
-        weight.total()
-    )?;
-    println!(rt;
-        "quorum     {} or more of the weight\ntolerated  {} or less of the weight",
-        weight.decisive(),
-        weight.tolerable()
-    )
 }
 
 fn show_next_turn(rt: &HostRuntime, seat: u8, turn: Option<u32>) -> io::Result<()> {
@@ -202,7 +199,7 @@ fn answer(rt: &HostRuntime, words: &[String]) -> Result<(), Fault> {
     let views = read_view(views)?;
     let from = read_from(from)?;
     let span = Span { rt, views, from };
-    rule.show(rt)?;
+    println!(rt; "{rule}")?;
     match &turns {
         Turns::RoundRobin(robin) => span.show(robin)?,
         Turns::Listed(listed) => span.show(listed)?,
