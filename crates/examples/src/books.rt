@@ -1,6 +1,6 @@
 // Small books of four seats, of which seat 3 is open; view v is led by seat v mod 4.
-use crate::common::{list, refused, weigh};
-use book::block::{Block, Kind, Proposal};
+use crate::common::{list, weigh};
+use book::block::{Block, Kind, Origin, Proposal};
 use book::design::Design;
 use book::pages::Book;
 use letters::letter::Letter;
@@ -32,8 +32,7 @@ enum Fact {
     Kind(Kind),
     // its view, its payload and its height
     Place(u32, u64, u32),
-    // its parent, its maker and the heard seats
-    Origin(Option<(u32, u8, u64)>),
+    Origin(Option<Origin>),
     // its certificate and its commit point
     Points(u32, u32),
     Voters(u64),
@@ -46,8 +45,8 @@ enum Fact {
 enum Row {
     // a step that is accepted, with its answer
     Takes(Step, u32),
-    // a step that is refused, with its number: it leaves the blocks and letters as many as they were
-    Refuses(Step, u8),
+    // a step that is refused, which leaves the blocks and letters as many as they were
+    Refuses(Step, Refusal),
     // votes of seats 0, 1 and 2, who are the first for the block
     Elects(u32),
     // letters of seats 0, 1 and 2 for a view, each with the block that it names
@@ -78,165 +77,142 @@ fn proposal(view: u32, parent: u32, heard: u64) -> Proposal {
     }
 }
 
-fn take(book: &mut Book, step: Step) -> Result<u32, Refusal> {
-    let rule = CountRule::new(1)?;
-    let turns = RoundRobin::new(4)?;
-    let design = Design {
-        rule: &rule,
-        rotation: &turns,
-        open_set: SeatSet { bits: 8 },
-    };
-    match step {
-        Step::Fast(v, p, heard) => book.fast(&design, &proposal(v, p, heard)),
-        Step::Slow(v, p, heard) => book.slow(&design, &proposal(v, p, heard)),
-        Step::Vote(seat, block) => book.add_vote(seat, block),
-        Step::Letter(seat, view, block) => book.add_letter(Letter { seat, view, block }),
+// A book, and what ends the test where the book is not as expected.
+#[derive(Drop)]
+struct Trial<'a, A> {
+    rt: &'a A,
+    book: Book,
+}
+
+impl<'a, A: Abort> Trial<'a, A> {
+    fn take(&mut self, step: Step) -> Result<u32, Refusal> {
+        let rule = CountRule::new(1)?;
+        let turns = RoundRobin::new(4)?;
+        let design = Design {
+            rule: &rule,
+            rotation: &turns,
+            open_set: SeatSet { bits: 8 },
+        };
+        match step {
+            Step::Fast(v, p, heard) => self.book.fast(&design, &proposal(v, p, heard)),
+            Step::Slow(v, p, heard) => self.book.slow(&design, &proposal(v, p, heard)),
+            Step::Vote(seat, block) => self.book.add_vote(seat, block),
+            Step::Letter(seat, view, block) => self.book.add_letter(Letter { seat, view, block }),
+        }
+    }
+
+    fn takes(&mut self, step: Step, answer: u32) -> Result<(), Fail> {
+        assert_eq!(self.rt; self.take(step)?, answer);
+        Ok(())
+    }
+
+    fn refuses(&mut self, step: Step, refusal: Refusal) {
+        let counts = self.counts();
+        assert_eq!(self.rt; self.take(step), Err(refusal));
+        assert_eq!(self.rt; self.counts(), counts);
+    }
+
+    // How many blocks and letters there are.
+    fn counts(&self) -> (u32, u32) {
+        (self.book.blocks(), self.book.letters())
+    }
+
+    fn elect(&mut self, block: u32) -> Result<(), Fail> {
+        for seat in 0..3 {
+            self.takes(Step::Vote(seat, block), u32::from(seat) + 1)?;
+        }
+        Ok(())
+    }
+
+    fn write(&mut self, view: u32, named: [u32; 3]) -> Result<(), Fail> {
+        for (seat, block) in (0..3).zip(named) {
+            let count = self.take(Step::Letter(seat, view, block))?;
+            assert_eq!(self.rt; count, self.book.letters());
+        }
+        Ok(())
+    }
+
+    fn grow(&mut self, count: u32) -> Result<(), Fail> {
+        for parent in 0..count {
+            self.takes(Step::Fast(parent + 1, parent, 7), parent + 1)?;
+            self.elect(parent + 1)?;
+        }
+        Ok(())
+    }
+
+    fn pile(&mut self, count: u32) -> Result<(), Fail> {
+        for held in 0..count {
+            self.takes(Step::Letter(3, 1, 0), held + 1)?;
+        }
+        Ok(())
+    }
+
+    fn has(&self, number: u32, fact: Fact) -> Result<(), Fail> {
+        let block = self.book.find(number).ok_or("no such block")?;
+        fact.holds_of(self.rt, block);
+        Ok(())
+    }
+
+    fn absent(&self, number: u32) {
+        assert!(self.rt;
+            self.book.find(number).is_none()
+                && self.book.rank(number).is_none()
+                && self.book.on_chain(number, 0).is_none()
+        );
+    }
+
+    fn play_row(&mut self, row: Row) -> Result<(), Fail> {
+        match row {
+            Row::Takes(step, answer) => self.takes(step, answer)?,
+            Row::Refuses(step, refusal) => self.refuses(step, refusal),
+            Row::Elects(number) => self.elect(number)?,
+            Row::Writes(view, named) => self.write(view, named)?,
+            Row::Grows(count) => self.grow(count)?,
+            Row::Piles(count) => self.pile(count)?,
+            Row::Counts(blocks, letters) => assert_eq!(self.rt; self.counts(), (blocks, letters)),
+            Row::Has(number, fact) => self.has(number, fact)?,
+            Row::Rank(number, view, certificate) => assert_eq!(self.rt;
+                self.book.rank(number),
+                Some((view, certificate))
+            ),
+            Row::Absent(number) => self.absent(number),
+            Row::Stands(number, below, told) => assert_eq!(self.rt;
+                self.book.stands_on(number, below),
+                told
+            ),
+            Row::HighestView(view) => assert_eq!(self.rt; self.book.highest_view(), Some(view)),
+        }
+        Ok(())
     }
 }
 
-fn takes(rt: &impl Abort, book: &mut Book, step: Step, answer: u32) -> Result<(), Fail> {
-    assert_eq!(rt; take(book, step)?, answer);
-    Ok(())
-}
-
-fn refuses(rt: &impl Abort, book: &mut Book, step: Step, number: u8) -> Result<(), Fail> {
-    let blocks = book.blocks();
-    let letters = book.letters();
-    refused(rt, take(book, step), number)?;
-    assert!(rt; book.blocks() == blocks && book.letters() == letters);
-    Ok(())
-}
-
-fn elect(rt: &impl Abort, book: &mut Book, block: u32) -> Result<(), Fail> {
-    for seat in 0..3 {
-        takes(rt, book, Step::Vote(seat, block), u32::from(seat) + 1)?;
-    }
-    Ok(())
-}
-
-fn write(rt: &impl Abort, book: &mut Book, view: u32, named: [u32; 3]) -> Result<(), Fail> {
-    for seat in 0..3 {
-        let count = take(book, Step::Letter(seat, view, named[seat as usize]))?;
-        assert_eq!(rt; count, book.letters());
-    }
-    Ok(())
-}
-
-fn grow(rt: &impl Abort, book: &mut Book, count: u32) -> Result<(), Fail> {
-    for parent in 0..count {
-        takes(rt, book, Step::Fast(parent + 1, parent, 7), parent + 1)?;
-        elect(rt, book, parent + 1)?;
-    }
-    Ok(())
-}
-
-fn pile(rt: &impl Abort, book: &mut Book, count: u32) -> Result<(), Fail> {
-    for held in 0..count {
-        takes(rt, book, Step::Letter(3, 1, 0), held + 1)?;
-    }
-    Ok(())
-}
-
-fn origin(block: &Block) -> Option<(u32, u8, u64)> {
-    let origin = block.origin()?;
-    Some((origin.parent, origin.maker, origin.heard.bits))
-}
-
-fn has(rt: &impl Abort, block: &Block, fact: Fact) -> Result<(), Fail> {
-    match fact {
-        Fact::Kind(kind) => {
-            assert_eq!(rt; block.kind as u8, kind as u8);
-            Ok(())
-        },
-        Fact::Place(view, payload, height) => {
-            assert_eq!(rt;
+impl Fact {
+    fn holds_of(self, rt: &impl Abort, block: &Block) {
+        match self {
+            Fact::Kind(kind) => assert_eq!(rt; block.kind, kind),
+            Fact::Place(view, payload, height) => assert_eq!(rt;
                 (block.view, block.payload, block.height),
                 (view, payload, height)
-            );
-            Ok(())
-        },
-        Fact::Origin(told) => {
-            assert_eq!(rt; origin(block), told);
-            Ok(())
-        },
-        Fact::Points(certificate, commit) => {
-            assert_eq!(rt; (block.certificate, block.commit), (certificate, commit));
-            Ok(())
-        },
-        Fact::Voters(bits) => {
-            assert_eq!(rt; block.voters.bits, bits);
-            Ok(())
-        },
-        Fact::Report(seat, told) => {
-            assert_eq!(rt; block.report(seat), told);
-            Ok(())
-        },
+            ),
+            Fact::Origin(told) => assert_eq!(rt; block.origin(), told),
+            Fact::Points(certificate, commit) => assert_eq!(rt;
+                (block.certificate, block.commit),
+                (certificate, commit)
+            ),
+            Fact::Voters(bits) => assert_eq!(rt; block.voters.bits, bits),
+            Fact::Report(seat, told) => assert_eq!(rt; block.report(seat), told),
+        }
     }
-}
-
-fn block_has(rt: &impl Abort, book: &Book, number: u32, fact: Fact) -> Result<(), Fail> {
-    match book.find(number) {
-        Some(block) => has(rt, block, fact),
-        None => Err(Fail::new("no such block")),
-    }
-}
-
-fn absent(rt: &impl Abort, book: &Book, number: u32) -> Result<(), Fail> {
-    assert!(rt;
-        book.find(number).is_none()
-            && book.rank(number).is_none()
-            && book.on_chain(number, 0).is_none()
-    );
-    Ok(())
-}
-
-fn play_row(rt: &impl Abort, book: &mut Book, row: Row) -> Result<(), Fail> {
-    match row {
-        Row::Takes(step, answer) => takes(rt, book, step, answer),
-        Row::Refuses(step, number) => refuses(rt, book, step, number),
-        Row::Elects(number) => elect(rt, book, number),
-        Row::Writes(view, named) => write(rt, book, view, named),
-        Row::Grows(count) => grow(rt, book, count),
-        Row::Piles(count) => pile(rt, book, count),
-        Row::Counts(blocks, letters) => {
-            assert_eq!(rt; (book.blocks(), book.letters()), (blocks, letters));
-            Ok(())
-        },
-        Row::Has(number, fact) => block_has(rt, book, number, fact),
-        Row::Rank(number, view, certificate) => {
-            assert_eq!(rt; book.rank(number), Some((view, certificate)));
-            Ok(())
-        },
-        Row::Absent(number) => absent(rt, book, number),
-        Row::Stands(number, below, told) => {
-            assert_eq!(rt; book.stands_on(number, below), told);
-            Ok(())
-        },
-        Row::HighestView(view) => {
-            assert_eq!(rt; book.highest_view(), Some(view));
-            Ok(())
-        },
-    }
-}
-
-fn play(rt: &impl Abort, book: &mut Book, rows: &[Row]) -> Result<(), Fail> {
-    for &row in rows {
-        play_row(rt, book, row)?;
-    }
-    Ok(())
-}
-
-fn play_parts(rt: &impl Abort, book: &mut Book, parts: &[&[Row]]) -> Result<(), Fail> {
-    for rows in parts {
-        play(rt, book, rows)?;
-    }
-    Ok(())
 }
 
 // A test: rows on a new book, part by part.
 fn plays(rt: &impl Abort, heap: Global, parts: &[&[Row]]) -> Result<(), Fail> {
-    let mut book = Book::new(heap, 4)?;
-    play_parts(rt, &mut book, parts)
+    let book = Book::new(heap, 4)?;
+    let mut trial = Trial { rt, book };
+    for &row in parts.iter().copied().flatten() {
+        trial.play_row(row)?;
+    }
+    Ok(())
 }
 
 // Block 1 of view 1 and, on the votes of 0, 1 and 2 for it, block 2 of view 2.
@@ -251,7 +227,7 @@ const SLOW: &[Row] = &[
     Row::Takes(Step::Vote(0, 2), 1),
     Row::Takes(Step::Vote(1, 2), 2),
     Row::Writes(3, [2, 2, 1]),
-    Row::Refuses(Step::Slow(3, 1, 7), 15),
+    Row::Refuses(Step::Slow(3, 1, 7), Refusal::ParentUnfit),
     Row::Takes(Step::Slow(3, 2, 7), 3),
 ];
 
@@ -304,7 +280,14 @@ fn parts_of_a_block(rt: HostRuntime) -> Result<(), Fail> {
     const ROWS: &[Row] = &[
         Row::Has(2, Fact::Kind(Kind::Fast)),
         Row::Has(2, Fact::Place(2, 1002, 2)),
-        Row::Has(2, Fact::Origin(Some((1, 2, 7)))),
+        Row::Has(
+            2,
+            Fact::Origin(Some(Origin {
+                parent: 1,
+                maker: 2,
+                heard: SeatSet { bits: 7 },
+            })),
+        ),
         Row::Has(2, Fact::Report(0, None)),
         Row::Has(1, Fact::Voters(7)),
         Row::Has(2, Fact::Voters(0)),
@@ -319,8 +302,8 @@ fn votes(rt: HostRuntime) -> Result<(), Fail> {
         Row::Takes(Step::Vote(0, 1), 3),
         Row::Takes(Step::Vote(3, 1), 4),
         Row::Takes(Step::Vote(2, 2), 1),
-        Row::Refuses(Step::Vote(0, 3), 4),
-        Row::Refuses(Step::Vote(0, u32::MAX), 4),
+        Row::Refuses(Step::Vote(0, 3), Refusal::NoSuchBlock),
+        Row::Refuses(Step::Vote(0, u32::MAX), Refusal::NoSuchBlock),
         Row::Has(1, Fact::Voters(15)),
         Row::Has(2, Fact::Voters(4)),
     ];
@@ -330,11 +313,11 @@ fn votes(rt: HostRuntime) -> Result<(), Fail> {
 #[test]
 fn letters_refused(rt: HostRuntime) -> Result<(), Fail> {
     const ROWS: &[Row] = &[
-        Row::Refuses(Step::Letter(0, 0, 3), 4),
-        Row::Refuses(Step::Letter(0, 0, 2), 5),
-        Row::Refuses(Step::Letter(0, 1_000_001, 2), 5),
-        Row::Refuses(Step::Letter(0, 1, 2), 9),
-        Row::Refuses(Step::Letter(0, 2, 2), 9),
+        Row::Refuses(Step::Letter(0, 0, 3), Refusal::NoSuchBlock),
+        Row::Refuses(Step::Letter(0, 0, 2), Refusal::ViewOutOfRange),
+        Row::Refuses(Step::Letter(0, 1_000_001, 2), Refusal::ViewOutOfRange),
+        Row::Refuses(Step::Letter(0, 1, 2), Refusal::BlockNotBelowLetter),
+        Row::Refuses(Step::Letter(0, 2, 2), Refusal::BlockNotBelowLetter),
         Row::Takes(Step::Letter(0, 3, 2), 1),
         Row::Takes(Step::Letter(0, 1_000_000, 2), 2),
     ];
@@ -345,16 +328,16 @@ fn letters_refused(rt: HostRuntime) -> Result<(), Fail> {
 #[test]
 fn fast_refused(rt: HostRuntime) -> Result<(), Fail> {
     const ROWS: &[Row] = &[
-        Row::Refuses(Step::Fast(0, 9, 19), 2),
-        Row::Refuses(Step::Fast(0, 9, 3), 4),
-        Row::Refuses(Step::Fast(0, 2, 3), 5),
-        Row::Refuses(Step::Fast(1_000_001, 2, 3), 5),
-        Row::Refuses(Step::Fast(2, 2, 3), 12),
-        Row::Refuses(Step::Fast(4, 2, 3), 13),
-        Row::Refuses(Step::Fast(4, 2, 7), 14),
-        Row::Refuses(Step::Fast(4, 1, 11), 14),
-        Row::Refuses(Step::Fast(4, 1, 7), 15),
-        Row::Refuses(Step::Fast(4, 0, 15), 15),
+        Row::Refuses(Step::Fast(0, 9, 19), Refusal::UnknownSeatInSet),
+        Row::Refuses(Step::Fast(0, 9, 3), Refusal::NoSuchBlock),
+        Row::Refuses(Step::Fast(0, 2, 3), Refusal::ViewOutOfRange),
+        Row::Refuses(Step::Fast(1_000_001, 2, 3), Refusal::ViewOutOfRange),
+        Row::Refuses(Step::Fast(2, 2, 3), Refusal::LeaderHasProposed),
+        Row::Refuses(Step::Fast(4, 2, 3), Refusal::HeardNoQuorum),
+        Row::Refuses(Step::Fast(4, 2, 7), Refusal::HeardSeatSilent),
+        Row::Refuses(Step::Fast(4, 1, 11), Refusal::HeardSeatSilent),
+        Row::Refuses(Step::Fast(4, 1, 7), Refusal::ParentUnfit),
+        Row::Refuses(Step::Fast(4, 0, 15), Refusal::ParentUnfit),
     ];
     plays(&rt, rt.alloc(), &[TWO, ROWS])
 }
@@ -363,17 +346,17 @@ fn fast_refused(rt: HostRuntime) -> Result<(), Fail> {
 fn slow_refused(rt: HostRuntime) -> Result<(), Fail> {
     const ROWS: &[Row] = &[
         Row::Writes(4, [1, 0, 0]),
-        Row::Refuses(Step::Slow(0, 9, 19), 2),
-        Row::Refuses(Step::Slow(0, 9, 3), 4),
-        Row::Refuses(Step::Slow(0, 2, 3), 5),
-        Row::Refuses(Step::Slow(1_000_001, 2, 3), 5),
-        Row::Refuses(Step::Slow(2, 2, 3), 12),
-        Row::Refuses(Step::Slow(4, 2, 3), 13),
-        Row::Refuses(Step::Slow(4, 2, 15), 14),
-        Row::Refuses(Step::Slow(5, 1, 7), 14),
+        Row::Refuses(Step::Slow(0, 9, 19), Refusal::UnknownSeatInSet),
+        Row::Refuses(Step::Slow(0, 9, 3), Refusal::NoSuchBlock),
+        Row::Refuses(Step::Slow(0, 2, 3), Refusal::ViewOutOfRange),
+        Row::Refuses(Step::Slow(1_000_001, 2, 3), Refusal::ViewOutOfRange),
+        Row::Refuses(Step::Slow(2, 2, 3), Refusal::LeaderHasProposed),
+        Row::Refuses(Step::Slow(4, 2, 3), Refusal::HeardNoQuorum),
+        Row::Refuses(Step::Slow(4, 2, 15), Refusal::HeardSeatSilent),
+        Row::Refuses(Step::Slow(5, 1, 7), Refusal::HeardSeatSilent),
         // reported by nobody, and outranked
-        Row::Refuses(Step::Slow(4, 2, 7), 15),
-        Row::Refuses(Step::Slow(4, 0, 7), 15),
+        Row::Refuses(Step::Slow(4, 2, 7), Refusal::ParentUnfit),
+        Row::Refuses(Step::Slow(4, 0, 7), Refusal::ParentUnfit),
         Row::Takes(Step::Slow(4, 1, 7), 3),
     ];
     plays(&rt, rt.alloc(), &[TWO, ROWS])
@@ -494,7 +477,7 @@ fn certificates_decide_between_equal_views(rt: HostRuntime) -> Result<(), Fail> 
         Row::Rank(3, 3, 1),
         Row::Rank(4, 3, 2),
         Row::Writes(5, [3, 3, 4]),
-        Row::Refuses(Step::Slow(5, 3, 7), 15),
+        Row::Refuses(Step::Slow(5, 3, 7), Refusal::ParentUnfit),
         Row::Takes(Step::Slow(5, 4, 7), 5),
     ];
     plays(&rt, rt.alloc(), &[TWO, ROWS])
@@ -511,7 +494,7 @@ fn the_view_decides_first(rt: HostRuntime) -> Result<(), Fail> {
         Row::Rank(3, 3, 2),
         Row::Rank(4, 4, 0),
         Row::Writes(5, [3, 4, 4]),
-        Row::Refuses(Step::Slow(5, 3, 7), 15),
+        Row::Refuses(Step::Slow(5, 3, 7), Refusal::ParentUnfit),
         Row::Takes(Step::Slow(5, 4, 7), 5),
     ];
     plays(&rt, rt.alloc(), &[TWO, ROWS])
@@ -589,7 +572,7 @@ fn the_highest_view_is_not_always_the_last(rt: HostRuntime) -> Result<(), Fail> 
 fn one_block_of_a_kept_leader(rt: HostRuntime) -> Result<(), Fail> {
     const ROWS: &[Row] = &[
         Row::Elects(2),
-        Row::Refuses(Step::Fast(2, 1, 7), 12),
+        Row::Refuses(Step::Fast(2, 1, 7), Refusal::LeaderHasProposed),
         Row::Takes(Step::Fast(3, 2, 7), 3),
         Row::Takes(Step::Fast(3, 2, 7), 4),
     ];
@@ -601,10 +584,10 @@ fn the_256th_block_is_the_last(rt: HostRuntime) -> Result<(), Fail> {
     const ROWS: &[Row] = &[
         Row::Grows(255),
         // 11 comes after 2, 4 and 5, and before the rest
-        Row::Refuses(Step::Fast(256, 255, 7), 11),
-        Row::Refuses(Step::Slow(255, 255, 0), 11),
-        Row::Refuses(Step::Fast(0, 255, 7), 5),
-        Row::Refuses(Step::Slow(0, 256, 7), 4),
+        Row::Refuses(Step::Fast(256, 255, 7), Refusal::BlocksFull),
+        Row::Refuses(Step::Slow(255, 255, 0), Refusal::BlocksFull),
+        Row::Refuses(Step::Fast(0, 255, 7), Refusal::ViewOutOfRange),
+        Row::Refuses(Step::Slow(0, 256, 7), Refusal::NoSuchBlock),
         Row::Counts(256, 0),
         Row::HighestView(255),
         Row::Has(255, Fact::Points(254, 253)),
@@ -616,47 +599,45 @@ fn the_256th_block_is_the_last(rt: HostRuntime) -> Result<(), Fail> {
 fn the_512th_letter_is_the_last(rt: HostRuntime) -> Result<(), Fail> {
     const ROWS: &[Row] = &[
         Row::Piles(512),
-        Row::Refuses(Step::Letter(0, 1, 0), 10),
-        Row::Refuses(Step::Letter(0, 0, 0), 5),
+        Row::Refuses(Step::Letter(0, 1, 0), Refusal::LettersFull),
+        Row::Refuses(Step::Letter(0, 0, 0), Refusal::ViewOutOfRange),
         Row::Counts(1, 512),
     ];
     plays(&rt, rt.alloc(), &[ROWS])
 }
 
-fn asked(rt: &impl Abort, book: &mut Book, rule: &WeightRule, turns: &Listed) -> Result<(), Fail> {
-    let design = Design {
-        rule,
-        rotation: turns,
-        open_set: SeatSet { bits: 0 },
-    };
-    // seats 1 and 2 are no quorum
-    refused(rt, book.fast(&design, &proposal(1, 0, 6)), 13)?;
-    for &(number, parent, maker) in &[(1, 0, 2), (2, 1, 0)] {
-        let answer = book.fast(&design, &proposal(number, parent, 1));
-        enters(rt, book, answer, number, (parent, maker, 1))?;
+// What another rule and another rotation answer: seat 0 alone is a quorum, and leads view 2.
+impl<'a, A: Abort> Trial<'a, A> {
+    fn ask(&mut self, rule: &WeightRule, turns: &Listed) -> Result<(), Fail> {
+        let design = Design {
+            rule,
+            rotation: turns,
+            open_set: SeatSet { bits: 0 },
+        };
+        let heard = SeatSet { bits: 1 };
+        // seats 1 and 2 are no quorum
+        let answer = self.book.fast(&design, &proposal(1, 0, 6));
+        assert_eq!(self.rt; answer, Err(Refusal::HeardNoQuorum));
+        for &(number, parent, maker) in &[(1, 0, 2), (2, 1, 0)] {
+            let answer = self.book.fast(&design, &proposal(number, parent, 1));
+            assert_eq!(self.rt; answer, Ok(number));
+            let origin = Origin {
+                parent,
+                maker,
+                heard,
+            };
+            self.has(number, Fact::Origin(Some(origin)))?;
+            self.takes(Step::Vote(0, number), 1)?;
+        }
+        Ok(())
     }
-    Ok(())
 }
 
-// A block that enters, where it comes from, and seat 0's vote for it.
-fn enters(
-    rt: &impl Abort,
-    book: &mut Book,
-    answer: Result<u32, Refusal>,
-    number: u32,
-    origin: (u32, u8, u64),
-) -> Result<(), Fail> {
-    assert_eq!(rt; answer?, number);
-    block_has(rt, book, number, Fact::Origin(Some(origin)))?;
-    takes(rt, book, Step::Vote(0, number), 1)
-}
-
-// Another rule and another rotation: seat 0 alone is a quorum, and leads view 2.
 #[test]
 fn rule_and_rotation_are_asked(rt: HostRuntime) -> Result<(), Fail> {
     let heap = rt.alloc();
     let rule = weigh(heap, &[5, 1, 1])?;
     let turns = list(heap, 3, &[2, 0])?;
-    let mut book = Book::new(heap, 3)?;
-    asked(&rt, &mut book, &rule, &turns)
+    let book = Book::new(heap, 3)?;
+    Trial { rt: &rt, book }.ask(&rule, &turns)
 }

@@ -1,5 +1,4 @@
 // Four seats by the count rule, of which one may be faulty; view v is led by seat v mod 4.
-use crate::common::numbered;
 use book::block::Proposal;
 use cluster::cluster::Cluster;
 use protocol::call::Call;
@@ -27,84 +26,78 @@ fn fast(view: u32, parent: u32) -> Call {
     })
 }
 
-// Calls, each with its answer or the number of its refusal.
-fn answers(rt: &impl Abort, cluster: &mut Four, calls: &[(Call, Result<u32, u8>)]) {
-    for &(call, expected) in calls {
-        assert_eq!(rt; numbered(cluster.call(call)), expected);
+// A cluster, and what ends the test where the cluster is not as expected.
+#[derive(Drop)]
+struct Trial<'a, A> {
+    rt: &'a A,
+    cluster: Four,
+}
+
+impl<'a, A: Abort> Trial<'a, A> {
+    // Calls, each with what it is answered.
+    fn answers(&mut self, calls: &[(Call, Result<u32, Refusal>)]) {
+        for &(call, expected) in calls {
+            assert_eq!(self.rt; self.cluster.call(call), expected);
+        }
     }
-}
 
-// What a kept seat remembers: its view, its last vote and its tip.
-fn remembers(
-    rt: &impl Abort,
-    cluster: &Four,
-    seat: u8,
-    view: u32,
-    vote: u32,
-    tip: u32,
-) -> Result<(), Fail> {
-    let Some(seat) = cluster.seat(seat) else {
-        return Err(Fail::new("no kept seat"));
-    };
-    assert_eq!(rt; (seat.view, seat.vote, seat.tip), (view, vote, tip));
-    Ok(())
-}
+    // What a kept seat remembers: its view, its last vote and its tip.
+    fn remembers(&self, seat: u8, view: u32, vote: u32, tip: u32) -> Result<(), Fail> {
+        let seat = self.cluster.seat(seat).ok_or("no kept seat")?;
+        assert_eq!(self.rt; (seat.view, seat.vote, seat.tip), (view, vote, tip));
+        Ok(())
+    }
 
-// The blocks that a kept seat has committed, by their place.
-fn commits(rt: &impl Abort, cluster: &Four, seat: u8, told: &[(u32, Option<u32>)]) {
-    for &(k, block) in told {
-        assert_eq!(rt; cluster.commit(seat, k), block);
+    // The blocks that a kept seat has committed, by their place.
+    fn commits(&self, seat: u8, told: &[(u32, Option<u32>)]) {
+        for &(k, block) in told {
+            assert_eq!(self.rt; self.cluster.commit(seat, k), block);
+        }
     }
 }
 
 // All seats in one program. Seats 0, 1 and 2 keep the rules; seat 3 is open, and says what the rehearsal has it say.
 #[test]
 fn a_rehearsal(rt: HostRuntime) -> Result<(), Fail> {
-    let mut cluster = open(rt.alloc(), SeatSet { bits: 8 })?;
-    answers(
-        &rt,
-        &mut cluster,
-        &[
-            // block 1 of view 1, on the first block
-            (fast(1, 0), Ok(1)),
-            // seat 0 votes for it, and not again
-            (Call::Show { seat: 0, block: 1 }, Ok(1)),
-            (Call::Show { seat: 0, block: 1 }, Ok(0)),
-            // the open seat's vote is the second
-            (Call::Vote { seat: 3, block: 1 }, Ok(2)),
-            // seat 0 leaves for view 2, and its letter names block 1
-            (Call::Expire { seat: 0, view: 2 }, Ok(1)),
-            // seats 1 and 2 have not voted
-            (fast(2, 1), Err(14)),
-        ],
-    );
-    remembers(&rt, &cluster, 0, 2, 1, 0)
+    let cluster = open(rt.alloc(), SeatSet { bits: 8 })?;
+    let mut trial = Trial { rt: &rt, cluster };
+    trial.answers(&[
+        // block 1 of view 1, on the first block
+        (fast(1, 0), Ok(1)),
+        // seat 0 votes for it, and not again
+        (Call::Show { seat: 0, block: 1 }, Ok(1)),
+        (Call::Show { seat: 0, block: 1 }, Ok(0)),
+        // the open seat's vote is the second
+        (Call::Vote { seat: 3, block: 1 }, Ok(2)),
+        // seat 0 leaves for view 2, and its letter names block 1
+        (Call::Expire { seat: 0, view: 2 }, Ok(1)),
+        // seats 1 and 2 have not voted
+        (fast(2, 1), Err(Refusal::HeardSeatSilent)),
+    ]);
+    trial.remembers(0, 2, 1, 0)
 }
 
 // The same code on the box of seat 2. All other seats are open: what their boxes send is entered as it arrives, and only
 // seat 2 acts by the rules.
 #[test]
 fn one_kept_seat_on_a_box(rt: HostRuntime) -> Result<(), Fail> {
-    let mut cluster = open(rt.alloc(), SeatSet { bits: 4 }.everyone_but(4))?;
-    answers(
-        &rt,
-        &mut cluster,
-        &[
-            (fast(1, 0), Ok(1)),
-            (Call::Vote { seat: 0, block: 1 }, Ok(1)),
-            (Call::Vote { seat: 1, block: 1 }, Ok(2)),
-            (Call::Show { seat: 2, block: 1 }, Ok(1)),
-            // block 2, on three votes for block 1
-            (fast(2, 1), Ok(2)),
-            (Call::Vote { seat: 0, block: 2 }, Ok(1)),
-            (Call::Vote { seat: 1, block: 2 }, Ok(2)),
-            (Call::Show { seat: 2, block: 2 }, Ok(1)),
-            // block 3 commits block 1, as seat 2 learns when it is shown
-            (fast(3, 2), Ok(3)),
-            (Call::Show { seat: 2, block: 3 }, Ok(1)),
-        ],
-    );
+    let cluster = open(rt.alloc(), SeatSet { bits: 4 }.everyone_but(4))?;
+    let mut trial = Trial { rt: &rt, cluster };
+    trial.answers(&[
+        (fast(1, 0), Ok(1)),
+        (Call::Vote { seat: 0, block: 1 }, Ok(1)),
+        (Call::Vote { seat: 1, block: 1 }, Ok(2)),
+        (Call::Show { seat: 2, block: 1 }, Ok(1)),
+        // block 2, on three votes for block 1
+        (fast(2, 1), Ok(2)),
+        (Call::Vote { seat: 0, block: 2 }, Ok(1)),
+        (Call::Vote { seat: 1, block: 2 }, Ok(2)),
+        (Call::Show { seat: 2, block: 2 }, Ok(1)),
+        // block 3 commits block 1, as seat 2 learns when it is shown
+        (fast(3, 2), Ok(3)),
+        (Call::Show { seat: 2, block: 3 }, Ok(1)),
+    ]);
     // the first block and block 1
-    commits(&rt, &cluster, 2, &[(0, Some(0)), (1, Some(1)), (2, None)]);
+    trial.commits(2, &[(0, Some(0)), (1, Some(1)), (2, None)]);
     Ok(())
 }

@@ -10,4 +10,6 @@ mod common;
 #[cfg(test)]
 mod quorums;
 #[cfg(test)]
+mod refusals;
+#[cfg(test)]
 mod rotations;

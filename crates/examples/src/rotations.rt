@@ -1,8 +1,8 @@
-use crate::common::{list, refused};
+use crate::common::list;
+use refusal::Refusal;
 use rotation::listed::Listed;
 use rotation::robin::RoundRobin;
 use rotation::turns::Rotation;
-use std::alloc::Global;
 use std::process::Abort;
 use std::test::Fail;
 
@@ -53,9 +53,14 @@ fn round_robin(rt: HostRuntime) -> Result<(), Fail> {
 fn round_robin_alone_and_named(rt: HostRuntime) -> Result<(), Fail> {
     leads(&rt, &RoundRobin::new(1)?, &[(7, Some(0))]);
     leads(&rt, &RoundRobin::starting_at(4, 3)?, &[(2, Some(0))]);
-    refused(&rt, RoundRobin::new(0), 19)?;
-    refused(&rt, RoundRobin::new(65), 19)?;
-    refused(&rt, RoundRobin::starting_at(4, 4), 19)
+    for turns in [
+        RoundRobin::new(0),
+        RoundRobin::new(65),
+        RoundRobin::starting_at(4, 4),
+    ] {
+        assert_eq!(rt; turns.err(), Some(Refusal::RotationOutOfRange));
+    }
+    Ok(())
 }
 
 #[test]
@@ -75,17 +80,20 @@ fn listed(rt: HostRuntime) -> Result<(), Fail> {
     Ok(())
 }
 
-fn refuses(rt: &impl Abort, heap: Global, seats: u8, order: &[u8]) -> Result<(), Fail> {
-    refused(rt, Listed::new(seats, order.to_vec(heap)?), 19)
-}
-
 #[test]
 fn lists_out_of_range(rt: HostRuntime) -> Result<(), Fail> {
     let heap = rt.alloc();
     leads(&rt, &list(heap, 1, &[0; 256])?, &[(300, Some(0))]);
-    refuses(&rt, heap, 4, &[])?;
-    refuses(&rt, heap, 4, &[0; 257])?;
-    refuses(&rt, heap, 4, &[0, 4])?;
-    refuses(&rt, heap, 0, &[0])?;
-    refuses(&rt, heap, 65, &[0])
+    let lists: [(u8, &[u8]); 5] = [
+        (4, &[]),
+        (4, &[0; 257]),
+        (4, &[0, 4]),
+        (0, &[0]),
+        (65, &[0]),
+    ];
+    for (seats, order) in lists {
+        let turns = Listed::new(seats, order.to_vec(heap)?);
+        assert_eq!(rt; turns.err(), Some(Refusal::RotationOutOfRange));
+    }
+    Ok(())
 }

@@ -8,9 +8,10 @@ use refusal::Refusal;
 use rotation::listed::Listed;
 use rotation::robin::RoundRobin;
 use rotation::turns::{LAST_VIEW, Rotation, is_view};
-use std::alloc::{AllocError, AllocFailed, Global};
+use std::alloc::{AllocError, Global};
 use std::process::ExitCode;
 use std::{env, fmt, io};
+use thiserror::Error;
 
 const USAGE: &str = "usage: roster RULE ROTATION VIEWS [FROM]
   RULE      count:F, or weights:W,W,.. with a weight for each seat
@@ -19,48 +20,34 @@ const USAGE: &str = "usage: roster RULE ROTATION VIEWS [FROM]
   FROM      the first view to show, and the one to tell next turns from (1)";
 
 // Why there is no table.
-#[derive(Debug, Drop)]
+#[derive(Debug, Drop, Error)]
 enum Fault {
-    Refused(Refusal),
+    #[error("refused, {}: {}", .0.number(), .0.sentence())]
+    Refused(#[from] Refusal),
+    #[error("refused, {}: {}", Refusal::NoMemory.number(), Refusal::NoMemory.sentence())]
+    Memory(#[from(alloc)] AllocError),
+    #[error("{}", USAGE)]
     Unreadable,
-    Io(io::Error),
+    #[error(transparent)]
+    Io(#[from] io::Error),
 }
 
-impl From<Refusal> for Fault {
-    fn from(refusal: Refusal) -> Fault {
-        Fault::Refused(refusal)
-    }
+// A number that its place has no room for is refused as that place refuses numbers out of its range.
+fn read<T: TryFrom<u64, Error: Drop>>(text: &str, refusal: Refusal) -> Result<T, Fault> {
+    let number: u64 = text.parse().map_err(|_| Fault::Unreadable)?;
+    T::try_from(number).map_err(|_| Fault::Refused(refusal))
 }
 
-impl From<AllocError> for Fault {
-    fn from(_e: AllocError) -> Fault {
-        Fault::Refused(Refusal::NoMemory)
+fn read_list<T: TryFrom<u64, Error: Drop> + Drop>(
+    heap: Global,
+    text: &str,
+    refusal: Refusal,
+) -> Result<Vec<T>, Fault> {
+    let mut items = Vec::new(heap);
+    for part in text.split(',') {
+        items.push(read(part, refusal)?)?;
     }
-}
-
-impl<T: Drop> From<AllocFailed<T>> for Fault {
-    fn from(_e: AllocFailed<T>) -> Fault {
-        Fault::Refused(Refusal::NoMemory)
-    }
-}
-
-impl From<io::Error> for Fault {
-    fn from(e: io::Error) -> Fault {
-        Fault::Io(e)
-    }
-}
-
-impl fmt::Display for Fault {
-    fn fmt<W: fmt::Write>(&self, f: &mut fmt::Formatter<W>) -> fmt::Result {
-        match self {
-            Fault::Refused(refusal) => {
-                let number = refusal.number();
-                write!(f, "refused, {number}: {refusal}")
-            }
-            Fault::Unreadable => f.write_str(USAGE),
-            Fault::Io(e) => write!(f, "{e}"),
-        }
-    }
+    Ok(items)
 }
 
 #[derive(Drop)]
@@ -70,10 +57,51 @@ enum Rule {
 }
 
 impl Rule {
+    fn read(heap: Global, word: &str) -> Result<Rule, Fault> {
+        match word.split_once(':') {
+            Some(("count", f)) => {
+                let faults = read(f, Refusal::FaultsOutOfRange)?;
+                Ok(Rule::Count(CountRule::new(faults)?))
+            }
+            Some(("weights", list)) => {
+                let weights = read_list(heap, list, Refusal::WeightsOutOfRange)?;
+                Ok(Rule::Weight(WeightRule::new(weights)?))
+            }
+            _ => Err(Fault::Unreadable),
+        }
+    }
+
     fn seats(&self) -> u8 {
         match self {
             Rule::Count(count) => count.seats(),
             Rule::Weight(weight) => weight.seats(),
+        }
+    }
+}
+
+// The number of seats, and which sets of them decide or are tolerated.
+impl fmt::Display for Rule {
+    fn fmt<W: fmt::Write>(&self, f: &mut fmt::Formatter<W>) -> fmt::Result {
+        match self {
+            Rule::Count(count) => write!(
+                f,
+                "seats      {}\n\
+                 quorum     {} or more seats\n\
+                 tolerated  {} or fewer seats",
+                count.seats(),
+                count.decisive(),
+                count.faults()
+            ),
+            Rule::Weight(weight) => write!(
+                f,
+                "seats      {}, together of weight {}\n\
+                 quorum     {} or more of the weight\n\
+                 tolerated  {} or less of the weight",
+                weight.seats(),
+                weight.total(),
+                weight.decisive(),
+                weight.tolerable()
+            ),
         }
     }
 }
@@ -84,110 +112,23 @@ enum Turns {
     Listed(Listed),
 }
 
-fn read_number(text: &str) -> Result<u64, Fault> {
-    match text.parse::<u64>() {
-        Ok(n) => Ok(n),
-        Err(_) => Err(Fault::Unreadable),
-    }
-}
-
-// A number that its place has no room for is refused as that place refuses numbers out of its range.
-fn read_byte(text: &str, refusal: Refusal) -> Result<u8, Fault> {
-    match u8::try_from(read_number(text)?) {
-        Ok(n) => Ok(n),
-        Err(_) => Err(Fault::Refused(refusal)),
-    }
-}
-
-fn read_view(text: &str) -> Result<u32, Fault> {
-    match u32::try_from(read_number(text)?) {
-        Ok(n) => Ok(n),
-        Err(_) => Err(Fault::Refused(Refusal::ViewOutOfRange)),
-    }
-}
-
-fn read_weights(heap: Global, text: &str) -> Result<Vec<u16>, Fault> {
-    let mut weights = Vec::new(heap);
-    for part in text.split(',') {
-        match u16::try_from(read_number(part)?) {
-            Ok(weight) => weights.push(weight)?,
-            Err(_) => return Err(Fault::Refused(Refusal::WeightsOutOfRange)),
+impl Turns {
+    fn read(heap: Global, word: &str, n: u8) -> Result<Turns, Fault> {
+        if word == "round-robin" {
+            return Ok(Turns::RoundRobin(RoundRobin::new(n)?));
+        }
+        match word.split_once(':') {
+            Some(("round-robin", first)) => {
+                let first = read(first, Refusal::RotationOutOfRange)?;
+                Ok(Turns::RoundRobin(RoundRobin::starting_at(n, first)?))
+            }
+            Some(("list", list)) => {
+                let order = read_list(heap, list, Refusal::RotationOutOfRange)?;
+                Ok(Turns::Listed(Listed::new(n, order)?))
+            }
+            _ => Err(Fault::Unreadable),
         }
     }
-    Ok(weights)
-}
-
-fn read_seats(heap: Global, text: &str) -> Result<Vec<u8>, Fault> {
-    let mut seats = Vec::new(heap);
-    for part in text.split(',') {
-        seats.push(read_byte(part, Refusal::RotationOutOfRange)?)?;
-    }
-    Ok(seats)
-}
-
-fn read_rule(heap: Global, word: &str) -> Result<Rule, Fault> {
-    match word.split_once(':') {
-        Some(("count", f)) => Ok(Rule::Count(CountRule::new(read_byte(
-            f,
-            Refusal::FaultsOutOfRange,
-        )?)?)),
-        Some(("weights", list)) => Ok(Rule::Weight(WeightRule::new(read_weights(heap, list)?)?)),
-        _ => Err(Fault::Unreadable),
-    }
-}
-
-fn read_turns(heap: Global, word: &str, n: u8) -> Result<Turns, Fault> {
-    if word == "round-robin" {
-        return Ok(Turns::RoundRobin(RoundRobin::new(n)?));
-    }
-    match word.split_once(':') {
-        Some(("round-robin", first)) => {
-            let first = read_byte(first, Refusal::RotationOutOfRange)?;
-            Ok(Turns::RoundRobin(RoundRobin::starting_at(n, first)?))
-        }
-        Some(("list", list)) => Ok(Turns::Listed(Listed::new(n, read_seats(heap, list)?)?)),
-        _ => Err(Fault::Unreadable),
-    }
-}
-
-// The number of seats, and which sets of them decide or are tolerated.
-fn show_count(rt: &HostRuntime, count: &CountRule) -> io::Result<()> {
-    let n = count.seats();
-    let decisive = count.decisive();
-    let faults = count.faults();
-    println!(rt;
-        "seats      {n}\nquorum     {decisive} or more seats\ntolerated  {faults} or fewer seats"
-    )
-}
-
-fn show_weight(rt: &HostRuntime, weight: &WeightRule) -> io::Result<()> {
-    let n = weight.seats();
-    let total = weight.total();
-    println!(rt; "seats      {n}, together of weight {total}")?;
-    let decisive = weight.decisive();
-    let tolerable = weight.tolerable();
-    println!(rt;
-        "quorum     {decisive} or more of the weight\ntolerated  {tolerable} or less of the weight"
-    )
-}
-
-fn show_rule(rt: &HostRuntime, rule: &Rule) -> io::Result<()> {
-    match rule {
-        Rule::Count(count) => show_count(rt, count),
-        Rule::Weight(weight) => show_weight(rt, weight),
-    }
-}
-
-// The leader of each view shown.
-fn show_leaders<T: Rotation>(rt: &HostRuntime, turns: &T, views: u32, from: u32) -> io::Result<()> {
-    let end = from.saturating_add(views).min(LAST_VIEW + 1);
-    println!(rt; "\nview     leader")?;
-    for view in from..end {
-        if let Some(leader) = turns.leader(view) {
-            println!(rt; "{view:<7}  {leader}")?;
-        }
-    }
-    Ok(())
 }
 
 fn show_next_turn(rt: &HostRuntime, seat: u8, turn: Option<u32>) -> io::Result<()> {
@@ -197,41 +138,49 @@ fn show_next_turn(rt: &HostRuntime, seat: u8, turn: Option<u32>) -> io::Result<(
     }
 }
 
-// Each seat's next turn.
-fn show_next_turns<T: Rotation>(rt: &HostRuntime, turns: &T, from: u32) -> io::Result<()> {
-    println!(rt; "\nseat     next turn from view {from}")?;
-    for seat in 0..turns.seats() {
-        show_next_turn(rt, seat, turns.next_turn(seat, from))?;
-    }
-    Ok(())
-}
-
-fn show_turns<T: Rotation>(rt: &HostRuntime, turns: &T, views: u32, from: u32) -> io::Result<()> {
-    show_leaders(rt, turns, views, from)?;
-    show_next_turns(rt, turns, from)
-}
-
-fn show_table(
-    rt: &HostRuntime,
-    rule: &Rule,
-    turns: &Turns,
+// What is shown of a rotation: so many views from one on, and the next turns from there.
+#[derive(Drop)]
+struct Span<'a> {
+    rt: &'a HostRuntime,
     views: u32,
     from: u32,
-) -> io::Result<()> {
-    show_rule(rt, rule)?;
-    match turns {
-        Turns::RoundRobin(robin) => show_turns(rt, robin, views, from),
-        Turns::Listed(listed) => show_turns(rt, listed, views, from),
+}
+
+impl<'a> Span<'a> {
+    // The leader of each view shown.
+    fn show_leaders<T: Rotation>(&self, turns: &T) -> io::Result<()> {
+        let end = self.from.saturating_add(self.views).min(LAST_VIEW + 1);
+        println!(self.rt; "\nview     leader")?;
+        for view in self.from..end {
+            if let Some(leader) = turns.leader(view) {
+                println!(self.rt; "{view:<7}  {leader}")?;
+            }
+        }
+        Ok(())
     }
+
+    // Each seat's next turn.
+    fn show_next_turns<T: Rotation>(&self, turns: &T) -> io::Result<()> {
+        println!(self.rt; "\nseat     next turn from view {}", self.from)?;
+        for seat in 0..turns.seats() {
+            show_next_turn(self.rt, seat, turns.next_turn(seat, self.from))?;
+        }
+        Ok(())
+    }
+
+    fn show<T: Rotation>(&self, turns: &T) -> io::Result<()> {
+        self.show_leaders(turns)?;
+        self.show_next_turns(turns)
+    }
+}
+
+fn read_view(word: &str) -> Result<u32, Fault> {
+    read(word, Refusal::ViewOutOfRange)
 }
 
 // The view to begin with.
-fn read_from(words: &[String]) -> Result<u32, Fault> {
-    let from = if words.len() > 3 {
-        read_view(words[3].as_str())?
-    } else {
-        1
-    };
+fn read_from(word: Option<&str>) -> Result<u32, Fault> {
+    let from = word.map_or(Ok(1), read_view)?;
     if !is_view(from) {
         return Err(Fault::Refused(Refusal::ViewOutOfRange));
     }
@@ -240,22 +189,27 @@ fn read_from(words: &[String]) -> Result<u32, Fault> {
 
 // The table that the words ask for.
 fn answer(rt: &HostRuntime, words: &[String]) -> Result<(), Fault> {
-    if words.len() < 3 || words.len() > 4 {
-        return Err(Fault::Unreadable);
+    let (rule, turns, views, from) = match words {
+        [rule, turns, views] => (rule, turns, views, None),
+        [rule, turns, views, from] => (rule, turns, views, Some(from.as_str())),
+        _ => return Err(Fault::Unreadable),
+    };
+    let rule = Rule::read(rt.alloc(), rule)?;
+    let turns = Turns::read(rt.alloc(), turns, rule.seats())?;
+    let views = read_view(views)?;
+    let from = read_from(from)?;
+    let span = Span { rt, views, from };
+    println!(rt; "{rule}")?;
+    match &turns {
+        Turns::RoundRobin(robin) => span.show(robin)?,
+        Turns::Listed(listed) => span.show(listed)?,
     }
-    let rule = read_rule(rt.alloc(), words[0].as_str())?;
-    let turns = read_turns(rt.alloc(), words[1].as_str(), rule.seats())?;
-    let views = read_view(words[2].as_str())?;
-    let from = read_from(words)?;
-    Ok(show_table(rt, &rule, &turns, views, from)?)
+    Ok(())
 }
 
 fn run(rt: &HostRuntime) -> Result<(), Fault> {
-    let mut words = Vec::new(rt.alloc());
-    for word in env::args(rt)?.skip(1) {
-        words.push(word)?;
-    }
-    answer(rt, words.as_slice())
+    let words: Vec<String> = env::args(rt)?.skip(1).collect(rt.alloc())?;
+    answer(rt, &words)
 }
 
 fn main(rt: HostRuntime) -> io::Result<ExitCode> {

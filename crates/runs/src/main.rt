@@ -8,24 +8,15 @@ mod worked;
 
 use refusal::Refusal;
 use std::{fmt, io};
+use thiserror::Error;
 
 // Why the program ended early.
-#[derive(Debug, Drop)]
+#[derive(Debug, Drop, Error)]
 pub enum Fault {
-    Refused(Refusal),
-    Io(io::Error),
-}
-
-impl From<Refusal> for Fault {
-    fn from(refusal: Refusal) -> Fault {
-        Fault::Refused(refusal)
-    }
-}
-
-impl From<io::Error> for Fault {
-    fn from(e: io::Error) -> Fault {
-        Fault::Io(e)
-    }
+    #[error(transparent)]
+    Refused(#[from] Refusal),
+    #[error(transparent)]
+    Io(#[from] io::Error),
 }
 
 fn main(rt: HostRuntime) -> Result<(), Fault> {

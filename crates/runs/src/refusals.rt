@@ -1,10 +1,10 @@
 // Every refusal once.
-use crate::limits::START;
-use crate::table::{Four, Row, Step, four, refused};
+use crate::limits::{BLOCK, LETTER, START};
+use crate::table::{Row, open, proposal, refused};
 use crate::{Fault, table};
-use cluster::cluster::Cluster;
+use letters::letter::Letter;
+use protocol::call::Call;
 use quorum::count::CountRule;
-use quorum::seats::SeatSet;
 use quorum::weight::WeightRule;
 use records::reader::Reader;
 use records::rehearsal::Rehearsal;
@@ -13,55 +13,57 @@ use rotation::robin::RoundRobin;
 
 // Refused with two blocks in the book, and then with as many letters and blocks as it holds.
 const CALLS: &[Row] = &[
-    Row::Refuses(3, Step::Show(4, 1)),
-    Row::Refuses(4, Step::Show(0, 9)),
-    Row::Refuses(5, Step::Expire(0, 0)),
-    Row::Refuses(6, Step::Vote(0, 1)),
-    Row::Refuses(7, Step::Show(3, 1)),
-    Row::Refuses(8, Step::Expire(0, 2)),
-    Row::Refuses(9, Step::Letter(3, 1, 1)),
-    Row::Refuses(12, Step::Fast(2, 1, 7)),
-    Row::Refuses(13, Step::Fast(3, 2, 3)),
-    Row::Refuses(14, Step::Fast(3, 2, 15)),
-    Row::Refuses(15, Step::Fast(4, 2, 7)),
-    Row::Repeats(Step::Letter(3, 5, 0), 512),
-    Row::Refuses(10, Step::Expire(0, 5)),
-    Row::Repeats(Step::Fast(3, 2, 7), 253),
-    Row::Refuses(11, Step::Fast(3, 2, 7)),
+    Row::Refuses(Refusal::NoSuchSeat, Call::Show { seat: 4, block: 1 }),
+    Row::Refuses(Refusal::NoSuchBlock, Call::Show { seat: 0, block: 9 }),
+    Row::Refuses(Refusal::ViewOutOfRange, Call::Expire { seat: 0, view: 0 }),
+    Row::Refuses(Refusal::SeatIsKept, Call::Vote { seat: 0, block: 1 }),
+    Row::Refuses(Refusal::SeatIsOpen, Call::Show { seat: 3, block: 1 }),
+    Row::Refuses(Refusal::ViewNotAboveSeat, Call::Expire { seat: 0, view: 2 }),
+    Row::Refuses(
+        Refusal::BlockNotBelowLetter,
+        Call::Letter(Letter {
+            seat: 3,
+            view: 1,
+            block: 1,
+        }),
+    ),
+    Row::Refuses(Refusal::LeaderHasProposed, Call::Fast(proposal!(2, 1, 7))),
+    Row::Refuses(Refusal::HeardNoQuorum, Call::Fast(proposal!(3, 2, 3))),
+    Row::Refuses(Refusal::HeardSeatSilent, Call::Fast(proposal!(3, 2, 15))),
+    Row::Refuses(Refusal::ParentUnfit, Call::Fast(proposal!(4, 2, 7))),
+    Row::Repeats(LETTER, 512),
+    Row::Refuses(Refusal::LettersFull, Call::Expire { seat: 0, view: 5 }),
+    Row::Repeats(BLOCK, 253),
+    Row::Refuses(Refusal::BlocksFull, BLOCK),
 ];
 
 // With three open seats, which the rule does not tolerate, two branches are committed, and seat 0 is shown both.
 const CONFLICT: &[Row] = &[
-    Row::Leads(Step::Fast(1, 0, 14), 1),
+    Row::Leads(Call::Fast(proposal!(1, 0, 14)), 1),
     Row::Elects(1),
-    Row::Leads(Step::Fast(1, 0, 14), 2),
+    Row::Leads(Call::Fast(proposal!(1, 0, 14)), 2),
     Row::Elects(2),
-    Row::Leads(Step::Fast(2, 1, 14), 3),
+    Row::Leads(Call::Fast(proposal!(2, 1, 14)), 3),
     Row::Elects(3),
-    Row::Leads(Step::Fast(2, 2, 14), 4),
+    Row::Leads(Call::Fast(proposal!(2, 2, 14)), 4),
     Row::Elects(4),
-    Row::Leads(Step::Fast(3, 3, 14), 5),
+    Row::Leads(Call::Fast(proposal!(3, 3, 14)), 5),
     Row::Elects(5),
-    Row::Leads(Step::Fast(3, 4, 14), 6),
+    Row::Leads(Call::Fast(proposal!(3, 4, 14)), 6),
     Row::Elects(6),
-    Row::Leads(Step::Show(0, 5), 1),
-    Row::Refuses(16, Step::Show(0, 6)),
+    Row::Leads(Call::Show { seat: 0, block: 5 }, 1),
+    Row::Refuses(Refusal::CommitConflict, Call::Show { seat: 0, block: 6 }),
 ];
 
-// Rule and rotation of different numbers of seats.
-fn mismatched(rt: &HostRuntime) -> Result<Four, Refusal> {
-    Cluster::open(
-        rt.alloc(),
-        CountRule::new(1)?,
-        RoundRobin::new(5)?,
-        SeatSet { bits: 8 },
-    )
-}
-
 fn rules(rt: &HostRuntime) -> Result<(), Fault> {
-    refused(rt, 17, CountRule::new(22))?;
-    refused(rt, 18, WeightRule::new(Vec::new(rt.alloc())))?;
-    refused(rt, 19, RoundRobin::new(65))
+    refused(rt, Refusal::FaultsOutOfRange, CountRule::new(22))?;
+    refused(
+        rt,
+        Refusal::WeightsOutOfRange,
+        WeightRule::new(Vec::new(rt.alloc())),
+    )?;
+    refused(rt, Refusal::RotationOutOfRange, RoundRobin::new(65))?;
+    Ok(())
 }
 
 // A record of an opening for one faulty seat, but for its letter and a spare byte.
@@ -82,8 +84,16 @@ fn answer(rt: &HostRuntime, bytes: &[u8]) -> Result<u32, Refusal> {
 }
 
 fn records(rt: &HostRuntime) -> Result<(), Fault> {
-    refused(rt, 20, answer(rt, &record(b'O', 0)[0..31]))?;
-    for &(expected, letter, spare) in &[(21, b'X', 0), (22, b'O', 1), (23, b'H', 0)] {
+    refused(
+        rt,
+        Refusal::RecordCutShort,
+        answer(rt, &record(b'O', 0)[0..31]),
+    )?;
+    for &(expected, letter, spare) in &[
+        (Refusal::RecordKindUnknown, b'X', 0),
+        (Refusal::SpareByteNotZero, b'O', 1),
+        (Refusal::RecordOutOfPlace, b'H', 0),
+    ] {
         refused(rt, expected, answer(rt, &record(letter, spare)))?;
     }
     Ok(())
@@ -91,8 +101,8 @@ fn records(rt: &HostRuntime) -> Result<(), Fault> {
 
 pub fn play(rt: &HostRuntime) -> Result<(), Fault> {
     println!(rt; "every refusal once")?;
-    refused(rt, 1, mismatched(rt))?;
-    refused(rt, 2, four(rt, 16))?;
+    refused(rt, Refusal::SeatCountsDiffer, open(rt, 5, 8))?;
+    refused(rt, Refusal::UnknownSeatInSet, open(rt, 4, 16))?;
     table::play(rt, 8, &[START, CALLS])?;
     table::play(rt, 14, &[CONFLICT])?;
     rules(rt)?;
