@@ -3,6 +3,7 @@
 use Rattle.std.proofs.Common.{◌≡◌, ℕ, zero, suc, ◌+◌, ◌<◌, Bool, true, false, cond, ◌&&◌, ◌||◌, eqb, ltb, List, length, get_or, Some, None, Option, Ordering, Less, Equal, Greater, sym, refl, ap, ◌∙◌, ap₂, add-one, arith}
 use Rattle.std.proofs.lemmas.Bool.{lt-ltb}
 use Rattle.std.specs.Option.{option_map_or}
+use Rattle.std.specs.Cmp.{IsTotalOrder, nat_cmp_total, then_total, on_total}
 use Rattle.std.specs.Ordering.{is_lt, nat_cmp, ordering_then}
 use Rattle.highest.specs.Row.{above, FirstHighest}
 use Rattle.letters.proofs.Searches.{any_below_found, any_below_none}
@@ -21,6 +22,10 @@ decided false false c d = refl
 -- the order of pairs
 abbrev pub rank_cmp : ℕ × ℕ → ℕ × ℕ → Ordering
 rank_cmp x y = ordering_then (nat_cmp x.0 y.0) (nat_cmp x.1 y.1)
+
+-- which is total, as that of each `Ord` type is
+pub rank_total : IsTotalOrder rank_cmp
+rank_total = then_total (on_total (λ p. p.0) nat_cmp_total) (on_total (λ p. p.1) nat_cmp_total)
 
 pub above_is_outranks : (bs : List Block) (x y : ℕ) → above rank_cmp (rank_of bs x) (rank_of bs y) ≡ outranks bs x y
 above_is_outranks bs x y =

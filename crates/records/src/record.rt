@@ -10,7 +10,7 @@ use quorum::seats::SeatSet;
 use refusal::Refusal;
 
 // The kinds of records, each known by its letter.
-#[derive(Clone, Copy, Debug, PartialEq, Eq)]
+#[derive(Clone, Copy)]
 pub enum Kind {
     Open,
     Fast,
