@@ -17,18 +17,14 @@ impl Book {
         (block.view, self.block(block.certificate).view)
     }
 
-    // Whether a report outranks the parent. The parent's rank stands first in the row, so it is picked unless another is
-    // higher.
+    // Whether a report outranks the parent: the highest of them does, if any.
     pub(crate) fn is_outranked(&self, reports: &[u32; 64], parent: u32) -> bool
         requires parent_held { parent < vec_len self.now.blocks }
         requires reports_held { (s : ℕ) → slice_index reports.now s < vec_len self.now.blocks }
         ensures { result ≡ any_below (λ s. outranks self.now.blocks.items (slice_index reports.now s) parent) 64 }
     {
-        let mut ranks = [self.rank_of(parent); 65];
-        for (seat, report) in reports.iter().enumerate() {
-            ranks[seat + 1] = self.rank_of(*report);
-        }
-        highest(&ranks).is_some_and(|place| place > 0)
+        let ranks = reports.map(|report| self.rank_of(report));
+        highest(&ranks).is_some_and(|place| ranks[place] > self.rank_of(parent))
     }
 
     // The certificate of a slow block: what a quorum of its reports names, where that is on the parent's chain and
