@@ -1,6 +1,7 @@
 -- Chains as lists: one step down, and what lies off a chain.
 -- Assumes nothing.
-use Rattle.std.proofs.Common.{◌≡◌, ℕ, zero, suc, ◌<◌, ◌≤◌, Bool, true, false, cond, ◌||◌, ◌⊎◌, eqb, leb, find, List, [], ◌∷◌, length, Some, None, Option, sym, refl, ap, ◌∙◌, ap₂, inl, inr, arith}
+use Rattle.std.proofs.Common.{◌≡◌, ℕ, zero, suc, ◌<◌, ◌≤◌, Bool, true, false, cond, ◌||◌, eqb, leb, find, slice_index_or, List, [], ◌∷◌, length, take, Some, None, Option, sym, refl, ap, ◌∙◌, ap₂, inl, inr, arith}
+use Rattle.std.proofs.lemmas.List.{length-take, get_or-take}
 use Rattle.std.proofs.lemmas.Bool.{both_ways, eq-eqb, ne_eqb, cases_eq, cases_lt, le-leb, lt-leb}
 use Rattle.std.specs.Option.{option_eq, option_map_or}
 use Rattle.book.specs.declared.block.Block.{Block}
@@ -116,27 +117,26 @@ module _ (bs : List Block) (before : ParentsBefore bs) (c : ℕ) where
   pub stands_found : (b : ℕ) → b < length bs → finds b ≡ stands bs b c
   stands_found b h = found_in b b (omega arith) h
 
--- what is left of some chain of the book
-abbrev pub Descends : List Block → List ℕ → Type 0
-Descends bs xs = (xs ≡ []) ⊎ ((b : ℕ) × (b < length bs) × (xs ≡ chain bs b))
-
--- one step down: the block that comes, its chain, and what is left then
+-- a chain has no number above that of its first block
 module _ (bs : List Block) (before : ParentsBefore bs) where
-  top_is : (b a : ℕ) (ys : List ℕ) → chain bs b ≡ a ∷ ys → b ≡ a
-  top_is zero a ys e = cc
-  top_is (suc b) a ys e = cc
+  within_in : (k b : ℕ) → b ≤ k → b < length bs → (i d : ℕ) → i < length (chain bs b) → slice_index_or (chain bs b) i d ≤ b
+  within_in k zero l h zero d m = omega arith
+  within_in k zero l h (suc i) d m = absurd (omega arith)
+  within_in zero (suc b) l h i d m = absurd (omega arith)
+  within_in (suc k) (suc b) l h i d m =
+      let step = chain_step bs before (suc b) (omega arith) h in
+      let down = before (suc b) (omega arith) h in
+      part i (omega (arith, m, ap length step)) step (within_in k (at bs (suc b)).parent (omega arith) (omega arith)) down
+    where
+      part : (i : ℕ) → i < suc (length (chain bs (at bs (suc b)).parent)) → chain bs (suc b) ≡ suc b ∷ chain bs (at bs (suc b)).parent → ((j e : ℕ) → j < length (chain bs (at bs (suc b)).parent) → slice_index_or (chain bs (at bs (suc b)).parent) j e ≤ (at bs (suc b)).parent) → (at bs (suc b)).parent < suc b → slice_index_or (chain bs (suc b)) i d ≤ suc b
+      part zero m step rest down = omega (arith, ap (λ xs. slice_index_or xs 0 d) step)
+      part (suc i) m step rest down = omega (arith, ap (λ xs. slice_index_or xs (suc i) d) step, rest i d (omega arith))
 
-  below_is : (a : ℕ) (ys : List ℕ) → a < length bs → chain bs a ≡ a ∷ ys → Descends bs ys
-  below_is zero ys h e = inl cc
-  below_is (suc a) ys h e =
-      let step = chain_step bs before (suc a) (omega arith) h in
-      let down = before (suc a) (omega arith) h in
-      inr ((at bs (suc a)).parent, omega arith, cc)
+  pub chain_within : (b : ℕ) → b < length bs → (i d : ℕ) → i < length (chain bs b) → slice_index_or (chain bs b) i d ≤ b
+  chain_within b h = within_in b b (omega arith) h
 
-  pub descend : (xs ys : List ℕ) (a : ℕ) → Descends bs xs → xs ≡ a ∷ ys → (a < length bs) × (chain bs a ≡ a ∷ ys) × Descends bs ys
-  descend xs ys a (inl none) e = let z : ◌≡◌ {A = List ℕ} [] (a ∷ ys) = cc in absurd cc
-  descend xs ys a (inr (b, h, same)) e =
-      let top = top_is b a ys (sym same ∙ e) in
-      let held : a < length bs = omega (arith, top) in
-      let whole : chain bs a ≡ a ∷ ys = ap (chain bs) (sym top) ∙ sym same ∙ e in
-      (held, whole, below_is a ys held whole)
+  -- nor has what a search takes of it
+  pub taken_within : (b : ℕ) → b < length bs → (n i d : ℕ) → i < length (take n (chain bs b)) → slice_index_or (take n (chain bs b)) i d ≤ b
+  taken_within b h n i d m =
+      let short = length-take n (chain bs b) in
+      omega (arith, get_or-take n (chain bs b) i d (omega (arith, m, short)), chain_within b h i d (omega (arith, m, short)))

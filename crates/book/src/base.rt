@@ -1,7 +1,7 @@
 // What speaks against committing a block.
-ghost use Rattle.std.specs.Prelude.{◌≡◌, ◌<◌, vec_len};
+ghost use Rattle.std.specs.Prelude.{◌≡◌, ◌<◌, nat_lt, vec_len};
 ghost use Rattle.book.specs.Admission.{rival, told_rival, clashes, any_of, good};
-ghost use Rattle.book.specs.Pages.{chain};
+ghost use Rattle.book.specs.Pages.{at, chain};
 
 use crate::block::Kind;
 use crate::pages::Book;
@@ -39,14 +39,21 @@ impl<'a> Base<'a> {
         block.heard.holds(seat) && self.is_rival(a, block.reports[seat as usize])
     }
 
+    // Whether the base is of an earlier view than block a.
+    fn is_before(&self, a: u32) -> bool
+        requires { a < vec_len self.now.book.now.blocks }
+        ensures { result ≡ nat_lt (at self.now.book.now.blocks.items self.now.number).view (at self.now.book.now.blocks.items a).view }
+    {
+        self.book.block(self.number).view < self.book.block(a).view
+    }
+
     // Whether block a is slow, is later than the base, and heard of such a rival.
     fn clashes(&self, a: u32) -> bool
         requires { a < vec_len self.now.book.now.blocks }
         ensures { result ≡ clashes self.now.book.now.blocks.items self.now.number a }
     {
-        let block = self.book.block(a);
-        block.kind == Kind::Slow
-            && self.book.block(self.number).view < block.view
+        self.book.block(a).kind == Kind::Slow
+            && self.is_before(a)
             && (0..64).any(|seat| self.told_rival(a, seat))
     }
 
@@ -55,16 +62,10 @@ impl<'a> Base<'a> {
         requires { top < vec_len self.now.book.now.blocks }
         ensures { result ≡ any_of (clashes self.now.book.now.blocks.items self.now.number) (chain self.now.book.now.blocks.items top) }
     {
-        let floor = self.book.block(self.number).view;
-        for a in self.book.chain(top) {
-            if self.book.block(a).view <= floor {
-                return false;
-            }
-            if self.clashes(a) {
-                return true;
-            }
-        }
-        false
+        self.book
+            .chain(top)
+            .take_while(|a| self.is_before(*a))
+            .any(|a| self.clashes(a))
     }
 
     // Whether the base is good to commit under the top, which certifies it.

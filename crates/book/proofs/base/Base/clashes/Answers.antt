@@ -7,8 +7,8 @@ use Rattle.book.specs.Kinds.{is_slow}
 use Rattle.book.specs.Pages.{at}
 use Rattle.book.proofs.base.Base.clashes.Goals as goal
 
-pub returns-then-block : goal.returns-then-block
-returns-then-block c =
+pub returns-then-is_before : goal.returns-then-is_before
+returns-then-is_before c =
     let bs = vec_items c.args.self.now.book.now.blocks in
     let test = told_rival bs c.args.self.now.number c.args.a in
     let heard : c.any.result ≡ heard_rival bs c.args.self.now.number c.args.a = any_from_yields_List test _ _ _ c.any.ensures.ran (YieldsList-from_range 0 64 64 refl refl) (λ x b q k. search (rules, tests)) ∙ any_in_range test 64 in
