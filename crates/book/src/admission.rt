@@ -44,7 +44,7 @@ impl Book {
         if self.blocks.len() >= 256 {
             return Err(Refusal::BlocksFull);
         }
-        if !design.open_set.holds(maker) && has_view(self.blocks.as_slice(), proposal.view) {
+        if !design.open_set.holds(maker) && has_view(&self.blocks, proposal.view) {
             return Err(Refusal::LeaderHasProposed);
         }
         if !design.rule.is_quorum(proposal.heard) {
@@ -114,7 +114,7 @@ impl Book {
         requires told { reports.now ≡ gathered self.now.letters.items proposal.now.heard proposal.now.view }
         ensures { result ≡ unfit self.now.blocks.items reports.now.blocks reports.now.heard.bits proposal.now.parent }
     {
-        !reports.contain(proposal.parent) || self.is_outranked(&reports.blocks, proposal.parent)
+        !reports.contains(proposal.parent) || self.is_outranked(&reports.blocks, proposal.parent)
     }
 
     // A block on the reports of the seats that left earlier views for its own.

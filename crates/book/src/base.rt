@@ -6,7 +6,8 @@ ghost use Rattle.book.specs.Pages.{at, chain};
 use crate::block::Kind;
 use crate::pages::Book;
 
-// A block of a book that may be committed.
+// A block of a book that may be committed. Other numbers are held to the book by each function's `requires`: of two numbers
+// with their books each would have to ask that the books are one.
 #[derive(Clone, Copy)]
 pub(crate) struct Base<'a> {
     pub(crate) book: &'a Book,
@@ -14,7 +15,7 @@ pub(crate) struct Base<'a> {
     ghost held: { number < vec_len book.now.blocks },
 }
 
-impl<'a> Base<'a> {
+impl Base<'_> {
     // Whether x, reported to block a, is a rival of a's parent that conflicts with the base.
     fn is_rival(&self, a: u32, x: u32) -> bool
         requires a_held { a < vec_len self.now.book.now.blocks }

@@ -6,7 +6,7 @@ ghost use Rattle.book.specs.Known.{ParentsBefore};
 use crate::block::Block;
 
 // The chain of a block, from the block down: its number, its parent's, and so on to the first block's.
-#[derive(Clone, Copy)]
+#[derive(Drop)]
 pub(crate) struct Chain<'a> {
     pub(crate) blocks: &'a [Block],
     pub(crate) next: Option<u32>,
@@ -14,7 +14,7 @@ pub(crate) struct Chain<'a> {
     ghost held: { ForSome next (λ b. b < length blocks.now) },
 }
 
-impl<'a> Iterator for Chain<'a> {
+impl Iterator for Chain<'_> {
     type Item = u32;
 
     ghost use Rattle.std.specs.Iterator.{YieldsFirst, item_count};

@@ -23,7 +23,8 @@ fn report_of(letters: &[Letter], heard: SeatSet, view: u32, seat: u8) -> Result<
     Ok(block)
 }
 
-// The heard seats, and the block that each of them reports, by seat.
+// The heard seats, and the block that each of them reports, by seat; 0 for the others. The set stands beside the table, and
+// not an `Option` in it, since a rule is asked with the set.
 #[derive(Clone, Copy)]
 pub struct Reports {
     pub heard: SeatSet,
@@ -50,7 +51,7 @@ impl Reports {
     }
 
     // Whether a heard seat reports this block.
-    pub fn contain(&self, block: u32) -> bool
+    pub fn contains(&self, block: u32) -> bool
         ensures { result ≡ any_below (reports_it self.now.blocks self.now.heard.bits block) 64 }
     {
         (0..64).any(|seat| self.tells(seat, block))
@@ -61,6 +62,7 @@ impl Reports {
         ensures { result.bits ≡ namers self.now.blocks self.now.heard.bits block }
     {
         let mut set = SeatSet { bits: 0 };
+        // a `for`, since a fold over the seats would be no plainer
         for seat in 0..64 {
             if self.tells(seat, block) {
                 set = set.with(seat);

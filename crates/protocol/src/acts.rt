@@ -136,7 +136,7 @@ impl Inner {
             it.tip = tip;
             return Ok(0);
         }
-        let _ = self.book.add_vote(seat, block);
+        self.book.add_vote(seat, block)?;
         let it = &mut self.seats[seat as usize];
         it.view = view;
         it.vote = block;

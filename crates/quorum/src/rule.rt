@@ -25,12 +25,15 @@ pub trait QuorumRule {
         Self::MOST
     }
 
+    // The number of seats.
     fn seats(&self) -> u8
         ensures { result ≡ seats self.now };
 
+    // Whether the seats of a set decide.
     fn is_quorum(&self, set: SeatSet) -> bool
         ensures { result ≡ quorum self.now set.bits };
 
+    // Whether the seats of a set may all be faulty at once.
     fn is_tolerated(&self, set: SeatSet) -> bool
         ensures { result ≡ tolerated self.now set.bits };
 

@@ -21,17 +21,13 @@ pub struct WeightRule {
     ghost bounded: { total ≤ 65535 * 32 },
 }
 
-// What all seats weigh together.
+// The sum of the weights.
 fn sum(weights: &[u16]) -> u32
     requires { length weights.now ≤ 32 }
     ensures value { result ≡ total_weight weights.now }
     ensures bound { result ≤ 65535 * 32 }
 {
-    let mut sum = 0;
-    for weight in weights {
-        sum += u32::from(*weight);
-    }
-    sum
+    weights.iter().map(|weight| u32::from(*weight)).sum()
 }
 
 impl WeightRule {
@@ -42,7 +38,7 @@ impl WeightRule {
         if weights.len() > 32 {
             return Err(Refusal::WeightsOutOfRange);
         }
-        let total = sum(weights.as_slice());
+        let total = sum(&weights);
         if total == 0 {
             return Err(Refusal::WeightsOutOfRange);
         }
@@ -75,6 +71,7 @@ impl WeightRule {
         ensures { result ≡ weight_of self.now.weights.items set.bits }
     {
         let mut sum = 0;
+        // a `for`, since the chain `enumerate`, `filter`, `map`, `sum` gets no proof
         for (seat, weight) in self.weights.iter().enumerate() {
             if set.holds(seat as u8) {
                 sum += u32::from(*weight);

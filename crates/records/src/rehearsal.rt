@@ -35,6 +35,7 @@ enum Stage {
     New,
     // records were read, and the first opened no cluster
     Unopened,
+    // the cluster that the first record opened
     Open(Cluster<CountRule, RoundRobin>),
 }
 
@@ -45,6 +46,7 @@ pub struct Rehearsal {
 }
 
 impl Rehearsal {
+    // A rehearsal of which no record was read.
     pub fn new() -> Rehearsal
         ensures { result.stage ≡ New }
     {
@@ -57,8 +59,10 @@ impl Rehearsal {
     {
         match (record?, &mut self.stage) {
             (Record::Open { faults, open_set }, stage @ Stage::New) => {
-                *stage = Stage::Open(open(heap, faults, open_set)?);
-                Ok(3 * u32::from(faults) + 1)
+                let cluster = open(heap, faults, open_set)?;
+                let seats = cluster.seats();
+                *stage = Stage::Open(cluster);
+                Ok(u32::from(seats))
             }
             (Record::Call(call), Stage::Open(cluster)) => cluster.call(call),
             _ => Err(Refusal::RecordOutOfPlace),

@@ -34,7 +34,7 @@ impl Listed {
         if seats == 0 || seats > 64 || order.is_empty() || order.len() > 256 {
             return Err(Refusal::RotationOutOfRange);
         }
-        if !are_below(order.as_slice(), seats) {
+        if !are_below(&order, seats) {
             return Err(Refusal::RotationOutOfRange);
         }
         Ok(Listed { seats, order })

@@ -6,6 +6,7 @@ ghost use Rattle.rotation.specs.Turns.{is_view, leader_of, NextTurn, OneNextTurn
 // Views are numbered from 1 to this one.
 pub const LAST_VIEW: u32 = 1_000_000;
 
+// Whether a number is that of a view.
 pub fn is_view(view: u32) -> bool
     ensures { result ≡ is_view view }
 {
@@ -19,9 +20,11 @@ pub trait Rotation {
 
     ghost leads: { Self → ℕ → ℕ };
 
+    // The number of seats.
     fn seats(&self) -> u8
         ensures { result ≡ seats self.now };
 
+    // The seat that leads a view.
     fn leader(&self, view: u32) -> Option<u8>
         ensures { result ≡ leader_of (leads self.now) view };
 

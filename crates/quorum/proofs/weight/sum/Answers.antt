@@ -1,8 +1,14 @@
-use Rattle.std.proofs.Common.{arith}
-use Rattle.quorum.specs.Weights.{total_more}
+use Rattle.std.proofs.Common.{◌≡◌, ◌∙◌, sum, arith, rules}
+use Rattle.std.proofs.iter.runs.Sources.{sums}
+use Rattle.quorum.specs.Weights.{total_is_sum, total_within}
 use Rattle.quorum.proofs.weight.sum.Goals as goal
 
-pub loop-weight-preserved : goal.loop-weight-preserved
-loop-weight-preserved c =
-    let more = total_more c.args.weights.now c.loop-weight.weight-index c.loop-weight-test.true in
-    (omega arith, omega arith)
+pub returns-clause-value : goal.returns-clause-value
+returns-clause-value c =
+    let told : c.sum.result ≡ sum c.args.weights.now = search (rules, sums) in
+    told ∙ total_is_sum c.args.weights.now
+
+pub returns-clause-bound : goal.returns-clause-bound
+returns-clause-bound c =
+    let told : c.sum.result ≡ sum c.args.weights.now = search (rules, sums) in
+    omega (arith, told, total_is_sum c.args.weights.now, total_within 65535 c.args.weights.now (λ i. omega (arith, c.type_inv.weights i)), c.requires)

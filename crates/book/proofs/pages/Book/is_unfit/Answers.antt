@@ -9,11 +9,11 @@ is_outranked-requires-clause-reports_held c =
     let p = c.args.proposal.now in
     λ s. let held = gathered_held _ _ book.known p.heard p.view _ c.requires.told s in omega (arith, held, book.blocks.ok.0)
 
-pub returns-else-not-contain : goal.returns-else-not-contain
-returns-else-not-contain c =
+pub returns-else-not-contains : goal.returns-else-not-contains
+returns-else-not-contains c =
     let book = c.args.self.now in
     let bs = vec_items book.blocks in
     let p = c.args.proposal.now in
     let r = c.args.reports.now in
     c.is_outranked.ensures ∙ gathered_outrank _ _ book.known p.heard p.view _ c.requires.told p.parent
-    ∙ sym (ap (λ b. not b || any_below (reports_higher bs r.blocks r.heard.bits p.parent) 64) (sym c.contain.ensures ∙ c.if-not-contain.false))
+    ∙ sym (ap (λ b. not b || any_below (reports_higher bs r.blocks r.heard.bits p.parent) 64) (sym c.contains.ensures ∙ c.if-not-contains.false))

@@ -3,7 +3,7 @@ use Rattle.std.proofs.lemmas.Iterator.{YieldsList-from_range}
 use Rattle.std.proofs.lemmas.Iterator.Search.{any_from_yields_List}
 use Rattle.letters.specs.Named.{reports_it}
 use Rattle.letters.proofs.Searches.{any_in_range}
-use Rattle.letters.proofs.reports.Reports.contain.Goals as goal
+use Rattle.letters.proofs.reports.Reports.contains.Goals as goal
 
 pub returns : goal.returns
 returns c =
