@@ -67,6 +67,7 @@ impl Book {
     pub fn highest_view(&self) -> Option<u32>
         ensures { result ≡ Some (highest_view self.now.blocks.items) }
     {
+        // a row on the stack: nothing allocates after opening
         let views: [u32; 256] = array::from_fn(|b| self.view_of(b));
         let place = highest(&views)?;
         Some(views[place])

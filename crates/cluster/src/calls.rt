@@ -61,7 +61,7 @@ impl<R: QuorumRule, T: Rotation> Cluster<R, T> {
         self.inner.letter(&self.rule, letter)
     }
 
-    // Any of these calls, as a value.
+    // Any of these calls, as a value: they are a closed set.
     pub fn call(&mut self, call: Call) -> Result<u32, Refusal>
         ensures reply { result ≡ reply (state_of R.QuorumRule T.Rotation self.old) call }
         ensures after { state_of R.QuorumRule T.Rotation self.new ≡ after (state_of R.QuorumRule T.Rotation self.old) call }
