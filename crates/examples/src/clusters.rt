@@ -2,12 +2,12 @@
 use book::block::Proposal;
 use cluster::cluster::Cluster;
 use protocol::call::Call;
+use protocol::seat::Seat;
 use quorum::count::CountRule;
 use quorum::seats::SeatSet;
 use refusal::Refusal;
 use rotation::robin::RoundRobin;
 use std::alloc::Global;
-use std::process::Abort;
 use std::test::Fail;
 
 type Four = Cluster<CountRule, RoundRobin>;
@@ -28,12 +28,12 @@ fn fast(view: u32, parent: u32) -> Call {
 
 // A cluster, and what ends the test where the cluster is not as expected.
 #[derive(Drop)]
-struct Trial<'a, A> {
-    rt: &'a A,
+struct Trial<'a> {
+    rt: &'a HostRuntime,
     cluster: Four,
 }
 
-impl<'a, A: Abort> Trial<'a, A> {
+impl Trial<'_> {
     // Calls, each with what it is answered.
     fn answers(&mut self, calls: &[(Call, Result<u32, Refusal>)]) {
         for &(call, expected) in calls {
@@ -42,10 +42,8 @@ impl<'a, A: Abort> Trial<'a, A> {
     }
 
     // What a kept seat remembers: its view, its last vote and its tip.
-    fn remembers(&self, seat: u8, view: u32, vote: u32, tip: u32) -> Result<(), Fail> {
-        let seat = self.cluster.seat(seat).ok_or("no kept seat")?;
-        assert_eq!(self.rt; (seat.view, seat.vote, seat.tip), (view, vote, tip));
-        Ok(())
+    fn remembers(&self, seat: u8, view: u32, vote: u32, tip: u32) {
+        assert_eq!(self.rt; self.cluster.seat(seat), Some(Seat { view, vote, tip }));
     }
 
     // The blocks that a kept seat has committed, by their place.
@@ -74,7 +72,8 @@ fn a_rehearsal(rt: HostRuntime) -> Result<(), Fail> {
         // seats 1 and 2 have not voted
         (fast(2, 1), Err(Refusal::HeardSeatSilent)),
     ]);
-    trial.remembers(0, 2, 1, 0)
+    trial.remembers(0, 2, 1, 0);
+    Ok(())
 }
 
 // The same code on the box of seat 2. All other seats are open: what their boxes send is entered as it arrives, and only
