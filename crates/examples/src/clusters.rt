@@ -8,6 +8,7 @@ use quorum::seats::SeatSet;
 use refusal::Refusal;
 use rotation::robin::RoundRobin;
 use std::alloc::Global;
+use std::process::Abort;
 use std::test::Fail;
 
 type Four = Cluster<CountRule, RoundRobin>;
@@ -28,12 +29,12 @@ fn fast(view: u32, parent: u32) -> Call {
 
 // A cluster, and what ends the test where the cluster is not as expected.
 #[derive(Drop)]
-struct Trial<'a> {
-    rt: &'a HostRuntime,
+struct Trial<'a, A> {
+    rt: &'a A,
     cluster: Four,
 }
 
-impl Trial<'_> {
+impl<A: Abort> Trial<'_, A> {
     // Calls, each with what it is answered.
     fn answers(&mut self, calls: &[(Call, Result<u32, Refusal>)]) {
         for &(call, expected) in calls {
