@@ -22,7 +22,7 @@ const USAGE: &str = "usage: roster RULE ROTATION VIEWS [FROM]
 // Why there is no table.
 #[derive(Debug, Drop, Error)]
 enum Fault {
-    #[error("refused, {}: {0}", .0.number())]
+    #[error("refused, {}: {}", .0.number(), .0)]
     Refused(#[from] Refusal),
     #[error("refused, {}: {}", Refusal::NoMemory.number(), Refusal::NoMemory)]
     Memory(#[from(alloc)] AllocError),
