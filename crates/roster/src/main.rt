@@ -9,6 +9,7 @@ use rotation::listed::Listed;
 use rotation::robin::RoundRobin;
 use rotation::turns::{LAST_VIEW, Rotation, is_view};
 use std::alloc::{AllocError, Global};
+use std::num::TryFromIntError;
 use std::process::ExitCode;
 use std::{env, fmt, io};
 use thiserror::Error;
@@ -34,22 +35,23 @@ enum Fault {
 
 // Text that is no number of 64 bits is unreadable. A number that its place has no room for is refused as that place
 // refuses numbers out of its range.
-fn read<T: TryFrom<u64, Error: Drop>>(text: &str, refusal: Refusal) -> Result<T, Fault> {
+fn read<T: TryFrom<u64, Error = TryFromIntError>>(
+    text: &str,
+    refusal: Refusal,
+) -> Result<T, Fault> {
     let number: u64 = text.parse().map_err(|_| Fault::Unreadable)?;
     T::try_from(number).map_err(|_| Fault::Refused(refusal))
 }
 
-// Numbers between commas, by a `for`: a generic closure under `map` gets no proof.
-fn read_list<T: TryFrom<u64, Error: Drop> + Drop>(
+// The numbers between commas.
+fn read_list<T: TryFrom<u64, Error = TryFromIntError> + Drop>(
     heap: Global,
     text: &str,
     refusal: Refusal,
 ) -> Result<Vec<T>, Fault> {
-    let mut items = Vec::new(heap);
-    for part in text.split(',') {
-        items.push(read(part, refusal)?)?;
-    }
-    Ok(items)
+    text.split(',')
+        .map(|part| read(part, refusal))
+        .try_collect(heap)
 }
 
 // Either rule, as text names it: an enum, as `read` may not hand out a boxed `dyn`.
