@@ -13,7 +13,7 @@ use rotation::robin::RoundRobin;
 use std::process::Abort;
 use std::test::Fail;
 
-// A call that changes a book, which has four of a cluster's six calls.
+// A call that changes a book. A book has four of a cluster's six calls.
 #[derive(Clone, Copy)]
 enum Step {
     // a view, a parent and the heard seats
@@ -39,7 +39,8 @@ enum Fact {
     Report(u8, Option<u32>),
 }
 
-// What a test does with a book, or expects of it: one line of data, which as a call would say no more and need its own `?`.
+// What a test does with a book, or expects of it. A row is one line of data: as a call it would say no more, and need its
+// own `?`.
 #[derive(Clone, Copy)]
 enum Row {
     // a step that is accepted, with its answer
