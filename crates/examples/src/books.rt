@@ -10,11 +10,10 @@ use quorum::weight::WeightRule;
 use refusal::Refusal;
 use rotation::listed::Listed;
 use rotation::robin::RoundRobin;
-use std::alloc::Global;
 use std::process::Abort;
 use std::test::Fail;
 
-// A call that changes a book.
+// A call that changes a book. A book has four of a cluster's six calls.
 #[derive(Clone, Copy)]
 enum Step {
     // a view, a parent and the heard seats
@@ -40,7 +39,8 @@ enum Fact {
     Report(u8, Option<u32>),
 }
 
-// What a test does with a book, or expects of it.
+// What a test does with a book, or expects of it. A row is one line of data: as a call it would say no more, and need its
+// own `?`.
 #[derive(Clone, Copy)]
 enum Row {
     // a step that is accepted, with its answer
@@ -51,20 +51,12 @@ enum Row {
     Elects(u32),
     // letters of seats 0, 1 and 2 for a view, each with the block that it names
     Writes(u32, [u32; 3]),
-    // so many blocks, from block 1 on, each on the votes for the one before
-    Grows(u32),
-    // so many letters of the open seat, from the first on
-    Piles(u32),
     // how many blocks and letters there are
     Counts(u32, u32),
     // a block and a fact of it
     Has(u32, Fact),
     // a block, its view and its certificate's view
     Rank(u32, u32, u32),
-    // a number that no block has
-    Absent(u32),
-    // two blocks, and whether the first stands on the second, where there are both
-    Stands(u32, u32, Option<bool>),
     HighestView(u32),
 }
 
@@ -84,7 +76,13 @@ struct Trial<'a, A> {
     book: Book,
 }
 
-impl<'a, A: Abort> Trial<'a, A> {
+impl<'a, A: Abort + AllocGlobal> Trial<'a, A> {
+    // A new book of so many seats.
+    fn new(rt: &'a A, seats: u8) -> Result<Trial<'a, A>, Fail> {
+        let book = Book::new(rt.alloc(), seats)?;
+        Ok(Trial { rt, book })
+    }
+
     fn take(&mut self, step: Step) -> Result<u32, Refusal> {
         let rule = CountRule::new(1)?;
         let turns = RoundRobin::new(4)?;
@@ -132,33 +130,10 @@ impl<'a, A: Abort> Trial<'a, A> {
         Ok(())
     }
 
-    fn grow(&mut self, count: u32) -> Result<(), Fail> {
-        for parent in 0..count {
-            self.takes(Step::Fast(parent + 1, parent, 7), parent + 1)?;
-            self.elect(parent + 1)?;
-        }
-        Ok(())
-    }
-
-    fn pile(&mut self, count: u32) -> Result<(), Fail> {
-        for held in 0..count {
-            self.takes(Step::Letter(3, 1, 0), held + 1)?;
-        }
-        Ok(())
-    }
-
     fn has(&self, number: u32, fact: Fact) -> Result<(), Fail> {
         let block = self.book.find(number).ok_or("no such block")?;
         fact.holds_of(self.rt, block);
         Ok(())
-    }
-
-    fn absent(&self, number: u32) {
-        assert!(self.rt;
-            self.book.find(number).is_none()
-                && self.book.rank(number).is_none()
-                && self.book.on_chain(number, 0).is_none()
-        );
     }
 
     fn play_row(&mut self, row: Row) -> Result<(), Fail> {
@@ -167,20 +142,21 @@ impl<'a, A: Abort> Trial<'a, A> {
             Row::Refuses(step, refusal) => self.refuses(step, refusal),
             Row::Elects(number) => self.elect(number)?,
             Row::Writes(view, named) => self.write(view, named)?,
-            Row::Grows(count) => self.grow(count)?,
-            Row::Piles(count) => self.pile(count)?,
             Row::Counts(blocks, letters) => assert_eq!(self.rt; self.counts(), (blocks, letters)),
             Row::Has(number, fact) => self.has(number, fact)?,
             Row::Rank(number, view, certificate) => assert_eq!(self.rt;
                 self.book.rank(number),
                 Some((view, certificate))
             ),
-            Row::Absent(number) => self.absent(number),
-            Row::Stands(number, below, told) => assert_eq!(self.rt;
-                self.book.stands_on(number, below),
-                told
-            ),
             Row::HighestView(view) => assert_eq!(self.rt; self.book.highest_view(), Some(view)),
+        }
+        Ok(())
+    }
+
+    // Rows, part by part.
+    fn play(&mut self, parts: &[&[Row]]) -> Result<(), Fail> {
+        for &row in parts.iter().copied().flatten() {
+            self.play_row(row)?;
         }
         Ok(())
     }
@@ -205,14 +181,9 @@ impl Fact {
     }
 }
 
-// A test: rows on a new book, part by part.
-fn plays(rt: &impl Abort, heap: Global, parts: &[&[Row]]) -> Result<(), Fail> {
-    let book = Book::new(heap, 4)?;
-    let mut trial = Trial { rt, book };
-    for &row in parts.iter().copied().flatten() {
-        trial.play_row(row)?;
-    }
-    Ok(())
+// A test: rows on a new book.
+fn plays(rt: &(impl Abort + AllocGlobal), parts: &[&[Row]]) -> Result<(), Fail> {
+    Trial::new(rt, 4)?.play(parts)
 }
 
 // Block 1 of view 1 and, on the votes of 0, 1 and 2 for it, block 2 of view 2.
@@ -262,17 +233,16 @@ fn the_first_block(rt: HostRuntime) -> Result<(), Fail> {
         Row::Rank(0, 0, 0),
         Row::HighestView(0),
     ];
-    plays(&rt, rt.alloc(), &[ROWS])
+    plays(&rt, &[ROWS])
 }
 
 #[test]
 fn no_block_is_told_of_before_it_enters(rt: HostRuntime) -> Result<(), Fail> {
-    const ROWS: &[Row] = &[
-        Row::Absent(1),
-        Row::Stands(1, 0, None),
-        Row::Stands(0, 1, None),
-    ];
-    plays(&rt, rt.alloc(), &[ROWS])
+    let book = Book::new(rt.alloc(), 4)?;
+    assert!(rt; book.find(1).is_none() && book.rank(1).is_none() && book.on_chain(1, 0).is_none());
+    assert_eq!(rt; book.stands_on(1, 0), None);
+    assert_eq!(rt; book.stands_on(0, 1), None);
+    Ok(())
 }
 
 #[test]
@@ -292,7 +262,7 @@ fn parts_of_a_block(rt: HostRuntime) -> Result<(), Fail> {
         Row::Has(1, Fact::Voters(7)),
         Row::Has(2, Fact::Voters(0)),
     ];
-    plays(&rt, rt.alloc(), &[TWO, ROWS])
+    plays(&rt, &[TWO, ROWS])
 }
 
 #[test]
@@ -307,7 +277,7 @@ fn votes(rt: HostRuntime) -> Result<(), Fail> {
         Row::Has(1, Fact::Voters(15)),
         Row::Has(2, Fact::Voters(4)),
     ];
-    plays(&rt, rt.alloc(), &[TWO, ROWS])
+    plays(&rt, &[TWO, ROWS])
 }
 
 #[test]
@@ -321,7 +291,7 @@ fn letters_refused(rt: HostRuntime) -> Result<(), Fail> {
         Row::Takes(Step::Letter(0, 3, 2), 1),
         Row::Takes(Step::Letter(0, 1_000_000, 2), 2),
     ];
-    plays(&rt, rt.alloc(), &[TWO, ROWS])
+    plays(&rt, &[TWO, ROWS])
 }
 
 // Of several reasons the smallest number is given.
@@ -339,7 +309,7 @@ fn fast_refused(rt: HostRuntime) -> Result<(), Fail> {
         Row::Refuses(Step::Fast(4, 1, 7), Refusal::ParentUnfit),
         Row::Refuses(Step::Fast(4, 0, 15), Refusal::ParentUnfit),
     ];
-    plays(&rt, rt.alloc(), &[TWO, ROWS])
+    plays(&rt, &[TWO, ROWS])
 }
 
 #[test]
@@ -359,7 +329,7 @@ fn slow_refused(rt: HostRuntime) -> Result<(), Fail> {
         Row::Refuses(Step::Slow(4, 0, 7), Refusal::ParentUnfit),
         Row::Takes(Step::Slow(4, 1, 7), 3),
     ];
-    plays(&rt, rt.alloc(), &[TWO, ROWS])
+    plays(&rt, &[TWO, ROWS])
 }
 
 #[test]
@@ -372,7 +342,7 @@ fn fast_blocks_certify_their_parents(rt: HostRuntime) -> Result<(), Fail> {
         Row::Has(3, Fact::Points(2, 1)),
         Row::Rank(3, 3, 2),
     ];
-    plays(&rt, rt.alloc(), &[TWO, ROWS])
+    plays(&rt, &[TWO, ROWS])
 }
 
 #[test]
@@ -384,7 +354,7 @@ fn a_slow_block_inherits(rt: HostRuntime) -> Result<(), Fail> {
         Row::Takes(Step::Fast(4, 3, 7), 4),
         Row::Has(4, Fact::Points(3, 1)),
     ];
-    plays(&rt, rt.alloc(), &[TWO, SLOW, ROWS])
+    plays(&rt, &[TWO, SLOW, ROWS])
 }
 
 #[test]
@@ -398,7 +368,7 @@ fn reports_told(rt: HostRuntime) -> Result<(), Fail> {
         Row::Has(3, Fact::Report(3, None)),
         Row::Has(3, Fact::Report(66, None)),
     ];
-    plays(&rt, rt.alloc(), &[TWO, SLOW, ROWS])
+    plays(&rt, &[TWO, SLOW, ROWS])
 }
 
 #[test]
@@ -408,7 +378,7 @@ fn a_quorum_of_reports_certifies(rt: HostRuntime) -> Result<(), Fail> {
         Row::Takes(Step::Slow(3, 2, 7), 3),
         Row::Has(3, Fact::Points(2, 1)),
     ];
-    plays(&rt, rt.alloc(), &[TWO, ROWS])
+    plays(&rt, &[TWO, ROWS])
 }
 
 // Block 3 stands on block 2, but a report of it is none of block 2.
@@ -419,7 +389,7 @@ fn only_reports_of_the_block_itself_count(rt: HostRuntime) -> Result<(), Fail> {
         Row::Takes(Step::Slow(4, 3, 7), 4),
         Row::Has(4, Fact::Points(1, 0)),
     ];
-    plays(&rt, rt.alloc(), &[TWO, SLOW, ROWS])
+    plays(&rt, &[TWO, SLOW, ROWS])
 }
 
 // The quorum may name a block below the parent.
@@ -431,7 +401,7 @@ fn a_quorum_certifies_below_the_parent(rt: HostRuntime) -> Result<(), Fail> {
         Row::Takes(Step::Slow(4, 3, 15), 4),
         Row::Has(4, Fact::Points(2, 1)),
     ];
-    plays(&rt, rt.alloc(), &[TWO, SLOW, ROWS])
+    plays(&rt, &[TWO, SLOW, ROWS])
 }
 
 // But neither one that the parent does not stand on, nor one no later than the parent's certificate.
@@ -449,7 +419,7 @@ fn a_quorum_off_the_chain_certifies_nothing(rt: HostRuntime) -> Result<(), Fail>
         Row::Takes(Step::Slow(5, 2, 15), 5),
         Row::Has(5, Fact::Points(1, 0)),
     ];
-    plays(&rt, rt.alloc(), &[TWO, ROWS])
+    plays(&rt, &[TWO, ROWS])
 }
 
 #[test]
@@ -463,7 +433,7 @@ fn the_latest_letter_is_reported(rt: HostRuntime) -> Result<(), Fail> {
         Row::Has(3, Fact::Report(1, Some(1))),
         Row::Has(3, Fact::Report(2, Some(1))),
     ];
-    plays(&rt, rt.alloc(), &[TWO, ROWS])
+    plays(&rt, &[TWO, ROWS])
 }
 
 // Block 3 is slow and block 4 fast, both of view 3; the views of their certificates decide.
@@ -480,7 +450,7 @@ fn certificates_decide_between_equal_views(rt: HostRuntime) -> Result<(), Fail> 
         Row::Refuses(Step::Slow(5, 3, 7), Refusal::ParentUnfit),
         Row::Takes(Step::Slow(5, 4, 7), 5),
     ];
-    plays(&rt, rt.alloc(), &[TWO, ROWS])
+    plays(&rt, &[TWO, ROWS])
 }
 
 // Block 4 has the higher view and the lower certificate.
@@ -497,7 +467,7 @@ fn the_view_decides_first(rt: HostRuntime) -> Result<(), Fail> {
         Row::Refuses(Step::Slow(5, 3, 7), Refusal::ParentUnfit),
         Row::Takes(Step::Slow(5, 4, 7), 5),
     ];
-    plays(&rt, rt.alloc(), &[TWO, ROWS])
+    plays(&rt, &[TWO, ROWS])
 }
 
 // Either block of equal rank may be the parent.
@@ -510,7 +480,7 @@ fn equal_ranks(rt: HostRuntime) -> Result<(), Fail> {
         Row::Takes(Step::Fast(6, 5, 7), 6),
         Row::Has(6, Fact::Points(5, 2)),
     ];
-    plays(&rt, rt.alloc(), &[TWO, FORK, ROWS])
+    plays(&rt, &[TWO, FORK, ROWS])
 }
 
 #[test]
@@ -521,7 +491,7 @@ fn a_clash_holds_the_commit_point_back(rt: HostRuntime) -> Result<(), Fail> {
         Row::Takes(Step::Fast(6, 5, 7), 6),
         Row::Has(6, Fact::Points(5, 2)),
     ];
-    plays(&rt, rt.alloc(), &[TWO, FORK, CLASH, ROWS])
+    plays(&rt, &[TWO, FORK, CLASH, ROWS])
 }
 
 // The clash is at block 5, below the certificate, block 6, of the last block.
@@ -535,23 +505,27 @@ fn a_clash_is_found_further_down(rt: HostRuntime) -> Result<(), Fail> {
         Row::Takes(Step::Fast(8, 6, 7), 7),
         Row::Has(7, Fact::Points(6, 2)),
     ];
-    plays(&rt, rt.alloc(), &[TWO, FORK, CLASH, ROWS])
+    plays(&rt, &[TWO, FORK, CLASH, ROWS])
 }
 
 #[test]
 fn what_stands_on_what(rt: HostRuntime) -> Result<(), Fail> {
-    const ROWS: &[Row] = &[
-        Row::Stands(5, 5, Some(true)),
-        Row::Stands(5, 3, Some(true)),
-        Row::Stands(5, 0, Some(true)),
-        Row::Stands(5, 4, Some(false)),
-        Row::Stands(4, 3, Some(false)),
-        Row::Stands(3, 5, Some(false)),
-        Row::Stands(0, 0, Some(true)),
-        Row::Stands(6, 0, None),
-        Row::Stands(0, 6, None),
-    ];
-    plays(&rt, rt.alloc(), &[TWO, FORK, CLASH, ROWS])
+    let mut trial = Trial::new(&rt, 4)?;
+    trial.play(&[TWO, FORK, CLASH])?;
+    for (number, below, told) in [
+        (5, 5, Some(true)),
+        (5, 3, Some(true)),
+        (5, 0, Some(true)),
+        (5, 4, Some(false)),
+        (4, 3, Some(false)),
+        (3, 5, Some(false)),
+        (0, 0, Some(true)),
+        (6, 0, None),
+        (0, 6, None),
+    ] {
+        assert_eq!(rt; trial.book.stands_on(number, below), told);
+    }
+    Ok(())
 }
 
 #[test]
@@ -564,7 +538,7 @@ fn the_highest_view_is_not_always_the_last(rt: HostRuntime) -> Result<(), Fail> 
         Row::Takes(Step::Slow(4, 2, 7), 4),
         Row::HighestView(9),
     ];
-    plays(&rt, rt.alloc(), &[TWO, ROWS])
+    plays(&rt, &[TWO, ROWS])
 }
 
 // A kept leader has one block of its view; the open seat has as many as it likes.
@@ -576,13 +550,12 @@ fn one_block_of_a_kept_leader(rt: HostRuntime) -> Result<(), Fail> {
         Row::Takes(Step::Fast(3, 2, 7), 3),
         Row::Takes(Step::Fast(3, 2, 7), 4),
     ];
-    plays(&rt, rt.alloc(), &[TWO, ROWS])
+    plays(&rt, &[TWO, ROWS])
 }
 
 #[test]
 fn the_256th_block_is_the_last(rt: HostRuntime) -> Result<(), Fail> {
     const ROWS: &[Row] = &[
-        Row::Grows(255),
         // 11 comes after 2, 4 and 5, and before the rest
         Row::Refuses(Step::Fast(256, 255, 7), Refusal::BlocksFull),
         Row::Refuses(Step::Slow(255, 255, 0), Refusal::BlocksFull),
@@ -592,22 +565,31 @@ fn the_256th_block_is_the_last(rt: HostRuntime) -> Result<(), Fail> {
         Row::HighestView(255),
         Row::Has(255, Fact::Points(254, 253)),
     ];
-    plays(&rt, rt.alloc(), &[ROWS])
+    let mut trial = Trial::new(&rt, 4)?;
+    // each on the votes for the one before
+    for block in 1..=255 {
+        trial.takes(Step::Fast(block, block - 1, 7), block)?;
+        trial.elect(block)?;
+    }
+    trial.play(&[ROWS])
 }
 
 #[test]
 fn the_512th_letter_is_the_last(rt: HostRuntime) -> Result<(), Fail> {
     const ROWS: &[Row] = &[
-        Row::Piles(512),
         Row::Refuses(Step::Letter(0, 1, 0), Refusal::LettersFull),
         Row::Refuses(Step::Letter(0, 0, 0), Refusal::ViewOutOfRange),
         Row::Counts(1, 512),
     ];
-    plays(&rt, rt.alloc(), &[ROWS])
+    let mut trial = Trial::new(&rt, 4)?;
+    for count in 1..=512 {
+        trial.takes(Step::Letter(3, 1, 0), count)?;
+    }
+    trial.play(&[ROWS])
 }
 
 // What another rule and another rotation answer: seat 0 alone is a quorum, and leads view 2.
-impl<'a, A: Abort> Trial<'a, A> {
+impl<A: Abort + AllocGlobal> Trial<'_, A> {
     fn ask(&mut self, rule: &WeightRule, turns: &Listed) -> Result<(), Fail> {
         let design = Design {
             rule,
@@ -638,6 +620,5 @@ fn rule_and_rotation_are_asked(rt: HostRuntime) -> Result<(), Fail> {
     let heap = rt.alloc();
     let rule = weigh(heap, &[5, 1, 1])?;
     let turns = list(heap, 3, &[2, 0])?;
-    let book = Book::new(heap, 3)?;
-    Trial { rt: &rt, book }.ask(&rule, &turns)
+    Trial::new(&rt, 3)?.ask(&rule, &turns)
 }

@@ -2,6 +2,7 @@
 use book::block::Proposal;
 use cluster::cluster::Cluster;
 use protocol::call::Call;
+use protocol::seat::Seat;
 use quorum::count::CountRule;
 use quorum::seats::SeatSet;
 use refusal::Refusal;
@@ -33,7 +34,7 @@ struct Trial<'a, A> {
     cluster: Four,
 }
 
-impl<'a, A: Abort> Trial<'a, A> {
+impl<A: Abort> Trial<'_, A> {
     // Calls, each with what it is answered.
     fn answers(&mut self, calls: &[(Call, Result<u32, Refusal>)]) {
         for &(call, expected) in calls {
@@ -42,10 +43,8 @@ impl<'a, A: Abort> Trial<'a, A> {
     }
 
     // What a kept seat remembers: its view, its last vote and its tip.
-    fn remembers(&self, seat: u8, view: u32, vote: u32, tip: u32) -> Result<(), Fail> {
-        let seat = self.cluster.seat(seat).ok_or("no kept seat")?;
-        assert_eq!(self.rt; (seat.view, seat.vote, seat.tip), (view, vote, tip));
-        Ok(())
+    fn remembers(&self, seat: u8, view: u32, vote: u32, tip: u32) {
+        assert_eq!(self.rt; self.cluster.seat(seat), Some(Seat { view, vote, tip }));
     }
 
     // The blocks that a kept seat has committed, by their place.
@@ -74,7 +73,8 @@ fn a_rehearsal(rt: HostRuntime) -> Result<(), Fail> {
         // seats 1 and 2 have not voted
         (fast(2, 1), Err(Refusal::HeardSeatSilent)),
     ]);
-    trial.remembers(0, 2, 1, 0)
+    trial.remembers(0, 2, 1, 0);
+    Ok(())
 }
 
 // The same code on the box of seat 2. All other seats are open: what their boxes send is entered as it arrives, and only

@@ -1,3 +1,4 @@
+// The sets of seats, and the two quorum rules.
 use crate::common::weigh;
 use quorum::count::CountRule;
 use quorum::rule::QuorumRule;
@@ -60,10 +61,6 @@ fn one_faulty_seat_of_four(rt: HostRuntime) -> Result<(), Fail> {
     Ok(())
 }
 
-fn seats_for(faults: u8) -> Result<u32, Refusal> {
-    Ok(u32::from(CountRule::new(faults)?.seats()))
-}
-
 #[test]
 fn limits_of_the_count_rule(rt: HostRuntime) {
     for (faults, seats) in [
@@ -71,7 +68,7 @@ fn limits_of_the_count_rule(rt: HostRuntime) {
         (0, Ok(1)),
         (22, Err(Refusal::FaultsOutOfRange)),
     ] {
-        assert_eq!(rt; seats_for(faults), seats);
+        assert_eq!(rt; CountRule::new(faults).map(|rule| rule.seats()), seats);
     }
 }
 

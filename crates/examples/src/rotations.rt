@@ -1,3 +1,4 @@
+// The two rotations: who leads which view, and when a seat's turn comes.
 use crate::common::list;
 use refusal::Refusal;
 use rotation::listed::Listed;

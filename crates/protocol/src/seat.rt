@@ -1,7 +1,7 @@
 // A seat of the cluster.
 
 // What a kept seat remembers.
-#[derive(Clone, Copy)]
+#[derive(Clone, Copy, Debug, PartialEq, Eq)]
 pub struct Seat {
     // the view that it is in
     pub view: u32,

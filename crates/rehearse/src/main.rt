@@ -9,10 +9,8 @@ use std::io::{self, BufWriter, Read, Write};
 use std::process::ExitCode;
 use thiserror::Error;
 
-// At most so many records are read, and so many bytes.
-const MOST_RECORDS: usize = 4096;
-
-const MOST_BYTES: u64 = 131_072;
+// At most so many records are read, of 32 bytes each.
+const MOST_RECORDS: u64 = 4096;
 
 // Why it ended early.
 #[derive(Debug, Drop, Error)]
@@ -26,7 +24,7 @@ enum Fault {
 // A line for each record: its number from 0, and what came of it.
 fn play<W: Write>(heap: Global, bytes: &[u8], out: &mut W) -> Result<(), Fault> {
     let mut rehearsal = Rehearsal::new();
-    for (number, record) in Reader::new(bytes).take(MOST_RECORDS).enumerate() {
+    for (number, record) in Reader::new(bytes).enumerate() {
         match rehearsal.play(heap, record) {
             Ok(answer) => writeln!(out, "{number} ok {answer}")?,
             Err(Refusal::NoMemory) => return Err(Fault::NoMemory),
@@ -39,7 +37,7 @@ fn play<W: Write>(heap: Global, bytes: &[u8], out: &mut W) -> Result<(), Fault> 
 fn run(rt: &HostRuntime) -> Result<(), Fault> {
     let heap = rt.alloc();
     let mut bytes = Vec::new(heap);
-    rt.stdin().take(MOST_BYTES).read_to_end(&mut bytes)?;
+    rt.stdin().take(32 * MOST_RECORDS).read_to_end(&mut bytes)?;
     let mut out = BufWriter::new(heap, rt.stdout())?;
     play(heap, bytes.as_slice(), &mut out)?;
     out.flush()?;

@@ -9,6 +9,7 @@ use rotation::listed::Listed;
 use rotation::robin::RoundRobin;
 use rotation::turns::{LAST_VIEW, Rotation, is_view};
 use std::alloc::{AllocError, Global};
+use std::num::TryFromIntError;
 use std::process::ExitCode;
 use std::{env, fmt, io};
 use thiserror::Error;
@@ -22,9 +23,9 @@ const USAGE: &str = "usage: roster RULE ROTATION VIEWS [FROM]
 // Why there is no table.
 #[derive(Debug, Drop, Error)]
 enum Fault {
-    #[error("refused, {}: {}", .0.number(), .0.sentence())]
+    #[error("refused, {}: {}", .0.number(), .0)]
     Refused(#[from] Refusal),
-    #[error("refused, {}: {}", Refusal::NoMemory.number(), Refusal::NoMemory.sentence())]
+    #[error("refused, {}: {}", Refusal::NoMemory.number(), Refusal::NoMemory)]
     Memory(#[from(alloc)] AllocError),
     #[error("{}", USAGE)]
     Unreadable,
@@ -32,24 +33,28 @@ enum Fault {
     Io(#[from] io::Error),
 }
 
-// A number that its place has no room for is refused as that place refuses numbers out of its range.
-fn read<T: TryFrom<u64, Error: Drop>>(text: &str, refusal: Refusal) -> Result<T, Fault> {
+// Text that is no number of 64 bits is unreadable. A number that its place has no room for is refused as that place
+// refuses numbers out of its range.
+fn read<T: TryFrom<u64, Error = TryFromIntError>>(
+    text: &str,
+    refusal: Refusal,
+) -> Result<T, Fault> {
     let number: u64 = text.parse().map_err(|_| Fault::Unreadable)?;
     T::try_from(number).map_err(|_| Fault::Refused(refusal))
 }
 
-fn read_list<T: TryFrom<u64, Error: Drop> + Drop>(
+// The numbers between commas.
+fn read_list<T: TryFrom<u64, Error = TryFromIntError> + Drop>(
     heap: Global,
     text: &str,
     refusal: Refusal,
 ) -> Result<Vec<T>, Fault> {
-    let mut items = Vec::new(heap);
-    for part in text.split(',') {
-        items.push(read(part, refusal)?)?;
-    }
-    Ok(items)
+    text.split(',')
+        .map(|part| read(part, refusal))
+        .try_collect(heap)
 }
 
+// Either rule, as text names it: an enum, as `read` may not hand out a boxed `dyn`.
 #[derive(Drop)]
 enum Rule {
     Count(CountRule),
@@ -106,6 +111,7 @@ impl fmt::Display for Rule {
     }
 }
 
+// Either rotation, an enum for the same reason.
 #[derive(Drop)]
 enum Turns {
     RoundRobin(RoundRobin),
@@ -138,15 +144,15 @@ fn show_next_turn(rt: &HostRuntime, seat: u8, turn: Option<u32>) -> io::Result<(
     }
 }
 
-// What is shown of a rotation: so many views from one on, and the next turns from there.
+// The part of the table that shows a rotation: so many views from one on, and the next turns from there.
 #[derive(Drop)]
-struct Span<'a> {
+struct Table<'a> {
     rt: &'a HostRuntime,
     views: u32,
     from: u32,
 }
 
-impl<'a> Span<'a> {
+impl Table<'_> {
     // The leader of each view shown.
     fn show_leaders<T: Rotation>(&self, turns: &T) -> io::Result<()> {
         let end = self.from.saturating_add(self.views).min(LAST_VIEW + 1);
@@ -174,13 +180,9 @@ impl<'a> Span<'a> {
     }
 }
 
-fn read_view(word: &str) -> Result<u32, Fault> {
-    read(word, Refusal::ViewOutOfRange)
-}
-
 // The view to begin with.
 fn read_from(word: Option<&str>) -> Result<u32, Fault> {
-    let from = word.map_or(Ok(1), read_view)?;
+    let from = word.map_or(Ok(1), |word| read(word, Refusal::ViewOutOfRange))?;
     if !is_view(from) {
         return Err(Fault::Refused(Refusal::ViewOutOfRange));
     }
@@ -196,13 +198,13 @@ fn answer(rt: &HostRuntime, words: &[String]) -> Result<(), Fault> {
     };
     let rule = Rule::read(rt.alloc(), rule)?;
     let turns = Turns::read(rt.alloc(), turns, rule.seats())?;
-    let views = read_view(views)?;
+    let views = read(views, Refusal::ViewOutOfRange)?;
     let from = read_from(from)?;
-    let span = Span { rt, views, from };
+    let table = Table { rt, views, from };
     println!(rt; "{rule}")?;
     match &turns {
-        Turns::RoundRobin(robin) => span.show(robin)?,
-        Turns::Listed(listed) => span.show(listed)?,
+        Turns::RoundRobin(robin) => table.show(robin)?,
+        Turns::Listed(listed) => table.show(listed)?,
     }
     Ok(())
 }

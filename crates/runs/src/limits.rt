@@ -5,7 +5,6 @@ use letters::letter::Letter;
 use protocol::call::Call;
 use quorum::count::CountRule;
 use quorum::rule::QuorumRule;
-use refusal::Refusal;
 
 // Two blocks, each shown to the kept seats.
 pub const START: &[Row] = &[
@@ -52,17 +51,15 @@ const LIMITS: &[Row] = &[
     Row::Tells("one more (expected a refusal, 10): ", LETTER, ""),
 ];
 
-fn seats_for(faults: u8) -> Result<u32, Refusal> {
-    Ok(u32::from(CountRule::new(faults)?.seats()))
-}
-
+// The seats of the count rule, and then the rows.
 pub fn play(rt: &HostRuntime) -> Result<(), Fault> {
     println!(rt; "the limits")?;
     for &(before, faults) in &[
         ("seats for 21 faulty ones (expected 64): ", 21),
         ("seats for 22 faulty ones (expected a refusal, 17): ", 22),
     ] {
-        tell(rt, before, seats_for(faults), "")?;
+        let seats = CountRule::new(faults).map(|rule| u32::from(rule.seats()));
+        tell(rt, before, seats, "")?;
     }
     table::play(rt, 8, &[START, LIMITS])
 }

@@ -7,7 +7,7 @@ mod table;
 mod worked;
 
 use refusal::Refusal;
-use std::{fmt, io};
+use std::io;
 use thiserror::Error;
 
 // Why the program ended early.

@@ -77,10 +77,9 @@ fn record(letter: u8, spare: u8) -> [u8; 32] {
 
 // What the first record of an input is answered.
 fn answer(rt: &HostRuntime, bytes: &[u8]) -> Result<u32, Refusal> {
-    match Reader::new(bytes).next() {
-        Some(record) => Rehearsal::new().play(rt.alloc(), record),
-        None => Ok(0),
-    }
+    Reader::new(bytes)
+        .next()
+        .map_or(Ok(0), |record| Rehearsal::new().play(rt.alloc(), record))
 }
 
 fn records(rt: &HostRuntime) -> Result<(), Fault> {
@@ -99,6 +98,7 @@ fn records(rt: &HostRuntime) -> Result<(), Fault> {
     Ok(())
 }
 
+// The refusals of an opening, of a cluster's calls, of rules and rotations, and of records.
 pub fn play(rt: &HostRuntime) -> Result<(), Fault> {
     println!(rt; "every refusal once")?;
     refused(rt, Refusal::SeatCountsDiffer, open(rt, 5, 8))?;

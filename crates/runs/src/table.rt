@@ -24,7 +24,7 @@ macro_rules! proposal {
 
 pub(crate) use proposal;
 
-// A row of a run.
+// A row of a run: one line of data, which as a call would say no more and need its own `?`.
 #[derive(Clone, Copy)]
 pub enum Row {
     // a call that leads up to others, and the answer that it should get
@@ -36,7 +36,7 @@ pub enum Row {
     // a call, and how many times it is made
     Repeats(Call, u32),
     // a block that enters: its name, and the number, certificate and commit point that it should have
-    Enters(&'static str, Call, &'static str),
+    Enters(&'static str, Call, (u32, u32, u32)),
     // a call whose answer is told between some words
     Tells(&'static str, Call, &'static str),
     // a call that should be refused
@@ -83,7 +83,7 @@ struct Player<'a> {
     cluster: Four,
 }
 
-impl<'a> Player<'a> {
+impl Player<'_> {
     fn lead(&mut self, call: Call, expected: u32) -> Result<(), Fault> {
         let answer = self.cluster.call(call)?;
         if answer != expected {
@@ -113,11 +113,12 @@ impl<'a> Player<'a> {
         Ok(())
     }
 
-    fn enter(&mut self, name: &str, call: Call, expected: &str) -> Result<(), Fault> {
+    fn enter(&mut self, name: &str, call: Call, expected: (u32, u32, u32)) -> Result<(), Fault> {
+        let (number, certificate, commit) = expected;
         let given = self.cluster.call(call)?;
         let block = self.cluster.book().find(given).ok_or(Refusal::NoSuchBlock)?;
         println!(self.rt;
-            "{name}  block {given}, certificate {}, commit point {}  (expected {expected})",
+            "{name}  block {given}, certificate {}, commit point {}  (expected {number}, {certificate}, {commit})",
             block.certificate, block.commit
         )?;
         Ok(())
