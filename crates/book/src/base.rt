@@ -6,8 +6,8 @@ ghost use Rattle.book.specs.Pages.{at, chain};
 use crate::block::Kind;
 use crate::pages::Book;
 
-// A block of a book that may be committed. Other numbers are held to the book by each function's `requires`: of two numbers
-// with their books each would have to ask that the books are one.
+// A block of a book that may be committed. Other numbers are held to the book by each function's `requires`: of two
+// numbers with their books each would have to ask that the books are one.
 #[derive(Clone, Copy)]
 pub(crate) struct Base<'a> {
     pub(crate) book: &'a Book,

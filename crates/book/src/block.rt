@@ -12,8 +12,9 @@ pub enum Kind {
     Slow,
 }
 
-// One proposal. Blocks are known by their numbers, in the order in which they entered; block 0 is the first. What a block of
-// its kind lacks is 0, since chains and rules read the fields of every block; `origin` and `report` tell them as `Option`s.
+// One proposal. Blocks are known by their numbers, in the order in which they entered; block 0 is the first. What a
+// block of its kind lacks is 0, since chains and rules read the fields of every block; `origin` and `report` tell them
+// as `Option`s.
 #[derive(Clone, Copy)]
 pub struct Block {
     pub view: u32,

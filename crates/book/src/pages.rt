@@ -5,8 +5,8 @@ ghost use Rattle.book.specs.Known.{Known};
 use crate::block::Block;
 use letters::letter::Letter;
 
-// At most 256 blocks and 512 letters, in order of arrival. Room for them all is reserved from the start. Blocks name each
-// other by number, as records and answers name them.
+// At most 256 blocks and 512 letters, in order of arrival. Room for them all is reserved from the start. Blocks name
+// each other by number, as records and answers name them.
 #[derive(Drop)]
 pub struct Book {
     pub(crate) blocks: Vec<Block>,

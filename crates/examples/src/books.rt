@@ -39,8 +39,8 @@ enum Fact {
     Report(u8, Option<u32>),
 }
 
-// What a test does with a book, or expects of it. A row is one line of data: as a call it would say no more, and need its
-// own `?`.
+// What a test does with a book, or expects of it. A row is one line of data: as a call it would say no more, and need
+// its own `?`.
 #[derive(Clone, Copy)]
 enum Row {
     // a step that is accepted, with its answer
@@ -202,8 +202,8 @@ const SLOW: &[Row] = &[
     Row::Takes(Step::Slow(3, 2, 7), 3),
 ];
 
-// Or two blocks of view 3, which is led by the open seat: 0 and 1 vote for block 3, and 2 for block 4. Each names its own
-// to view 5.
+// Or two blocks of view 3, which is led by the open seat: 0 and 1 vote for block 3, and 2 for block 4. Each names its
+// own to view 5.
 const FORK: &[Row] = &[
     Row::Elects(2),
     Row::Takes(Step::Fast(3, 2, 7), 3),

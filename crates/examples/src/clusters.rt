@@ -77,8 +77,8 @@ fn a_rehearsal(rt: HostRuntime) -> Result<(), Fail> {
     Ok(())
 }
 
-// The same code on the box of seat 2. All other seats are open: what their boxes send is entered as it arrives, and only
-// seat 2 acts by the rules.
+// The same code on the box of seat 2. All other seats are open: what their boxes send is entered as it arrives, and
+// only seat 2 acts by the rules.
 #[test]
 fn one_kept_seat_on_a_box(rt: HostRuntime) -> Result<(), Fail> {
     let cluster = open(rt.alloc(), SeatSet { bits: 4 }.everyone_but(4))?;

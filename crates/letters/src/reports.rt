@@ -23,8 +23,8 @@ fn report_of(letters: &[Letter], heard: SeatSet, view: u32, seat: u8) -> Result<
     Ok(block)
 }
 
-// The heard seats, and the block that each of them reports, by seat; 0 for the others. The set stands beside the table, and
-// not an `Option` in it, since a rule is asked with the set.
+// The heard seats, and the block that each of them reports, by seat; 0 for the others. The set stands beside the table,
+// and not an `Option` in it, since a rule is asked with the set.
 #[derive(Clone, Copy)]
 pub struct Reports {
     pub heard: SeatSet,

@@ -9,7 +9,8 @@ ghost use Rattle.refusal.specs.Sentences.{sentence_of};
 use std::alloc::AllocError;
 use std::fmt;
 
-// A reason to say no. A refused call changes nothing; where several reasons apply, the one with the smallest number is given.
+// A reason to say no. A refused call changes nothing; where several reasons apply, the one with the smallest number is
+// given.
 #[derive(Clone, Copy, Debug, PartialEq, Eq)]
 pub enum Refusal {
     SeatCountsDiffer = 1,
