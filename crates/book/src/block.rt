@@ -28,7 +28,7 @@ pub struct Block {
     pub kind: Kind,
     // the seats that its maker heard from
     pub(crate) heard: SeatSet,
-    // what each heard seat reported to a slow block, by seat
+    // what each heard seat reported to a slow block, by seat; a fast block has heard seats and no reports
     pub(crate) reports: [u32; 64],
     // the block that its certificate is for
     pub certificate: u32,

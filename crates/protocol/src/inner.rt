@@ -5,7 +5,7 @@ use crate::seat::Seat;
 use book::pages::Book;
 use quorum::seats::SeatSet;
 
-// The book, the open seats, and a record for each of 64 seats.
+// The book, the open seats, and a record for each of 64 seats, a table that is there from the start.
 #[derive(Drop)]
 pub struct Inner {
     pub book: Book,

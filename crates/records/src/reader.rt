@@ -6,7 +6,7 @@ ghost use Rattle.records.specs.Decoding.{yielded, beyond};
 use crate::record::Record;
 use refusal::Refusal;
 
-// The input, and the place that it was read up to.
+// The input, and the place that it was read up to: what is read next is promised by both.
 #[derive(Drop)]
 pub struct Reader<'a> {
     bytes: &'a [u8],
@@ -37,9 +37,9 @@ impl<'a> Iterator for Reader<'a> {
             return None;
         }
         self.at = self.bytes.len().min(at + 32);
-        Some(match self.bytes[at..].first_chunk() {
-            Some(bytes) => Record::try_from(bytes),
-            None => Err(Refusal::RecordCutShort),
-        })
+        let bytes = self.bytes[at..]
+            .first_chunk()
+            .ok_or(Refusal::RecordCutShort);
+        Some(bytes.and_then(Record::try_from))
     }
 }

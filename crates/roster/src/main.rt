@@ -165,7 +165,7 @@ impl Table<'_> {
         Ok(())
     }
 
-    // Each seat's next turn.
+    // Each seat's next turn: over seats, where the leaders go over views.
     fn show_next_turns<T: Rotation>(&self, turns: &T) -> io::Result<()> {
         println!(self.rt; "\nseat     next turn from view {}", self.from)?;
         for seat in 0..turns.seats() {

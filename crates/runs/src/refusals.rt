@@ -66,7 +66,7 @@ fn rules(rt: &HostRuntime) -> Result<(), Fault> {
     Ok(())
 }
 
-// A record of an opening for one faulty seat, but for its letter and a spare byte.
+// The 32 bytes of an opening for one faulty seat, but for its letter and a spare byte.
 fn record(letter: u8, spare: u8) -> [u8; 32] {
     let mut bytes = [0; 32];
     bytes[0] = letter;

@@ -43,7 +43,8 @@ pub enum Row {
     Refuses(Refusal, Call),
 }
 
-// Four seats, of which those of a set are open, by a rotation of so many.
+// Four seats, of which those of a set are open, by a rotation of so many. The tests open theirs themselves: one function
+// for both would be a library's, for three lines.
 pub fn open(rt: &HostRuntime, seats: u8, open_set: u64) -> Result<Four, Refusal> {
     let rule = CountRule::new(1)?;
     let rotation = RoundRobin::new(seats)?;
