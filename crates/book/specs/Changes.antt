@@ -13,20 +13,7 @@ use Rattle.letters.specs.declared.letter.Letter.{Letter}
 
 -- a block with one more voter; nothing else of it ever changes
 abbrev pub voted : ℕ → Block → Block
-voted seat b =
-    record {
-      view = b.view;
-      parent = b.parent;
-      payload = b.payload;
-      maker = b.maker;
-      height = b.height;
-      kind = b.kind;
-      heard = b.heard;
-      reports = b.reports;
-      certificate = b.certificate;
-      commit = b.commit;
-      voters = record { bits = with_seat seat b.voters.bits };
-    }
+voted seat b = record b { voters = record { bits = with_seat seat b.voters.bits } }
 
 -- how many seats have voted for the block then
 abbrev pub vote_reply : List Block → ℕ → ℕ → Result ℕ Refusal

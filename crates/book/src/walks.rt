@@ -10,8 +10,7 @@ use crate::chain::Chain;
 use crate::pages::Book;
 
 impl Book {
-    // The block with number b. That b names a block is asked of each number, here and above: of a value that held its
-    // book too, a function of two would still have to ask that their book is one.
+    // The block with number b.
     pub(crate) fn block(&self, b: u32) -> &Block
         requires { b < vec_len self.now.blocks }
         ensures { result.now ≡ at self.now.blocks.items b }

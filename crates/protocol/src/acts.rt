@@ -3,6 +3,7 @@ ghost use Rattle.std.specs.Prelude.{◌≡◌, ℕ, ◌<◌, Bool, ◌&&◌, [],
 ghost use Rattle.refusal.specs.Reasons.{replied};
 ghost use Rattle.refusal.specs.declared.Refusal.TheVariants.{CommitConflict};
 ghost use Rattle.book.specs.Admission.{conflict};
+ghost use Rattle.book.specs.Designs.{design_of};
 ghost use Rattle.book.specs.Pages.{at, stands};
 ghost use Rattle.protocol.specs.Calls.{reply, after, show_reasons, shown, leave_reasons};
 ghost use Rattle.protocol.specs.Held.{under};
@@ -68,6 +69,21 @@ impl Inner {
         view >= seat.view && view > self.view_of(seat.vote)
     }
 
+    // The rule and the rotation with the open seats, as the book asks for them.
+    fn design<'a, R: QuorumRule, T: Rotation>(
+        &self,
+        rule: &'a R,
+        rotation: &'a T,
+    ) -> Design<'a, R, T>
+        ensures { design_of R.QuorumRule T.Rotation result ≡ (under R.QuorumRule rule.now (T.Rotation.leads rotation.now) self.now).design }
+    {
+        Design {
+            rule,
+            rotation,
+            open_set: self.open_set,
+        }
+    }
+
     // A proposal on the votes for its parent.
     pub fn fast<R: QuorumRule, T: Rotation>(
         &mut self,
@@ -78,12 +94,7 @@ impl Inner {
         ensures reply { result ≡ reply (under R.QuorumRule rule.now (T.Rotation.leads rotation.now) self.old) (Fast proposal.now) }
         ensures after { under R.QuorumRule rule.now (T.Rotation.leads rotation.now) self.new ≡ after (under R.QuorumRule rule.now (T.Rotation.leads rotation.now) self.old) (Fast proposal.now) }
     {
-        let open_set = self.open_set;
-        let design = Design {
-            rule,
-            rotation,
-            open_set,
-        };
+        let design = self.design(rule, rotation);
         self.book.fast(&design, proposal)
     }
 
@@ -97,12 +108,7 @@ impl Inner {
         ensures reply { result ≡ reply (under R.QuorumRule rule.now (T.Rotation.leads rotation.now) self.old) (Slow proposal.now) }
         ensures after { under R.QuorumRule rule.now (T.Rotation.leads rotation.now) self.new ≡ after (under R.QuorumRule rule.now (T.Rotation.leads rotation.now) self.old) (Slow proposal.now) }
     {
-        let open_set = self.open_set;
-        let design = Design {
-            rule,
-            rotation,
-            open_set,
-        };
+        let design = self.design(rule, rotation);
         self.book.slow(&design, proposal)
     }
 

@@ -1,7 +1,7 @@
 -- Weights of sets of seats: the facts behind the laws of every rule that weighs or counts.
 -- Assumes nothing.
-use Rattle.std.specs.Prelude.{sum, ◌≡◌, ℕ, zero, suc, ◌+◌, ◌*◌, ◌/◌, ◌%◌, ◌^◌, ◌<◌, ◌≤◌, Bool, true, false, cond, T, ◌⊎◌, List, [], ◌∷◌, length, take, replicate, ◌==◌, slice_index, refl}
-use Rattle.std.proofs.Common.{sym, ap, ap₂, subst, ◌∙◌, inl, inr, arith, add-zero, zero-add, add-suc, suc-add, add-one, mul-suc}
+use Rattle.std.specs.Prelude.{sum, ◌≡◌, ℕ, zero, suc, ◌+◌, ◌/◌, ◌%◌, ◌^◌, ◌<◌, ◌≤◌, Bool, true, false, cond, T, ◌⊎◌, List, [], ◌∷◌, length, take, replicate, ◌==◌, slice_index, refl}
+use Rattle.std.proofs.Common.{sym, ap, ap₂, subst, ◌∙◌, inl, inr, arith, add-zero, zero-add, add-suc, suc-add, add-one}
 use Rattle.std.specs.Int.Count.{ones, ones_step}
 use Rattle.std.proofs.lemmas.List.Sums.{sum_by_from}
 use Rattle.std.proofs.lemmas.Nat.{shr_below}
@@ -109,14 +109,10 @@ total_more [] i h = absurd (omega arith)
 total_more (w ∷ ws) zero h = omega arith
 total_more (w ∷ ws) (suc i) h = rw (suc-add i 1) (omega (arith, total_more ws i (omega arith)))
 
--- the total is the library's sum, and has a bound where each weight has
+-- the total is the library's sum
 pub total_is_sum : (ws : List ℕ) → sum ws ≡ total_weight ws
 total_is_sum [] = refl
 total_is_sum (w ∷ ws) = sum_by_from (λ x. x) (0 + w) ws ∙ ap₂ ◌+◌ (zero-add w) (total_is_sum ws)
-
-pub total_within : (m : ℕ) (ws : List ℕ) → ((i : ℕ) → slice_index ws i ≤ m) → total_weight ws ≤ m * length ws
-total_within m [] f = omega arith
-total_within m (w ∷ ws) f = rw mul-suc (omega (arith, f 0, total_within m ws (λ i. f (suc i))))
 
 more_from :
     (s : ℕ) (ws : List ℕ) (q i : ℕ) → i < length ws →

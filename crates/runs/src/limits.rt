@@ -7,7 +7,7 @@ use quorum::count::CountRule;
 use quorum::rule::QuorumRule;
 
 // Two blocks, each shown to the kept seats.
-pub const START: &[Row] = &[
+pub(crate) const START: &[Row] = &[
     Row::Leads(Call::Fast(proposal!(1, 0, 7)), 1),
     Row::Shows(1),
     Row::Leads(Call::Fast(proposal!(2, 1, 7)), 2),
@@ -15,14 +15,14 @@ pub const START: &[Row] = &[
 ];
 
 // A letter of the open seat.
-pub const LETTER: Call = Call::Letter(Letter {
+pub(crate) const LETTER: Call = Call::Letter(Letter {
     seat: 3,
     view: 5,
     block: 0,
 });
 
 // A block of view 3, whose leader is open.
-pub const BLOCK: Call = Call::Fast(proposal!(3, 2, 7));
+pub(crate) const BLOCK: Call = Call::Fast(proposal!(3, 2, 7));
 
 const LIMITS: &[Row] = &[
     Row::Tells(
@@ -52,7 +52,7 @@ const LIMITS: &[Row] = &[
 ];
 
 // The seats of the count rule, and then the rows.
-pub fn play(rt: &HostRuntime) -> Result<(), Fault> {
+pub(crate) fn play(rt: &HostRuntime) -> Result<(), Fault> {
     println!(rt; "the limits")?;
     for &(before, faults) in &[
         ("seats for 21 faulty ones (expected 64): ", 21),

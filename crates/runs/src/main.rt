@@ -12,7 +12,7 @@ use thiserror::Error;
 
 // Why the program ended early.
 #[derive(Debug, Drop, Error)]
-pub enum Fault {
+pub(crate) enum Fault {
     #[error(transparent)]
     Refused(#[from] Refusal),
     #[error(transparent)]

@@ -99,7 +99,7 @@ fn records(rt: &HostRuntime) -> Result<(), Fault> {
 }
 
 // The refusals of an opening, of a cluster's calls, of rules and rotations, and of records.
-pub fn play(rt: &HostRuntime) -> Result<(), Fault> {
+pub(crate) fn play(rt: &HostRuntime) -> Result<(), Fault> {
     println!(rt; "every refusal once")?;
     refused(rt, Refusal::SeatCountsDiffer, open(rt, 5, 8))?;
     refused(rt, Refusal::UnknownSeatInSet, open(rt, 4, 16))?;

@@ -8,7 +8,7 @@ use refusal::Refusal;
 use rotation::robin::RoundRobin;
 use std::io;
 
-pub type Four = Cluster<CountRule, RoundRobin>;
+pub(crate) type Four = Cluster<CountRule, RoundRobin>;
 
 // A proposal, by its view, its parent and the heard seats. The rows are constants, which call no function.
 macro_rules! proposal {
@@ -26,7 +26,7 @@ pub(crate) use proposal;
 
 // A row of a run: one line of data, which as a call would say no more and need its own `?`.
 #[derive(Clone, Copy)]
-pub enum Row {
+pub(crate) enum Row {
     // a call that leads up to others, and the answer that it should get
     Leads(Call, u32),
     // a block that seats 0, 1 and 2 are shown, and vote for
@@ -45,14 +45,14 @@ pub enum Row {
 
 // Four seats, of which those of a set are open, by a rotation of so many. The tests open theirs themselves: one function
 // for both would be a library's, for three lines.
-pub fn open(rt: &HostRuntime, seats: u8, open_set: u64) -> Result<Four, Refusal> {
+pub(crate) fn open(rt: &HostRuntime, seats: u8, open_set: u64) -> Result<Four, Refusal> {
     let rule = CountRule::new(1)?;
     let rotation = RoundRobin::new(seats)?;
     Cluster::open(rt.alloc(), rule, rotation, SeatSet { bits: open_set })
 }
 
 // What a call is answered, between some words.
-pub fn tell(
+pub(crate) fn tell(
     rt: &HostRuntime,
     before: &str,
     answer: Result<u32, Refusal>,
@@ -65,7 +65,7 @@ pub fn tell(
 }
 
 // What comes beside the refusal that should.
-pub fn refused<T: Drop>(
+pub(crate) fn refused<T: Drop>(
     rt: &HostRuntime,
     expected: Refusal,
     answer: Result<T, Refusal>,
@@ -145,7 +145,7 @@ impl Player<'_> {
 }
 
 // Plays rows, part by part, on a new cluster in which the seats of a set are open.
-pub fn play(rt: &HostRuntime, open_set: u64, parts: &[&[Row]]) -> Result<(), Fault> {
+pub(crate) fn play(rt: &HostRuntime, open_set: u64, parts: &[&[Row]]) -> Result<(), Fault> {
     let cluster = open(rt, 4, open_set)?;
     let mut player = Player { rt, cluster };
     for &row in parts.iter().copied().flatten() {

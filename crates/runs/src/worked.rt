@@ -78,7 +78,7 @@ const RUNS: &[(&str, &[&[Row]])] = &[
 ];
 
 // Each run on a new cluster, under its title.
-pub fn play(rt: &HostRuntime) -> Result<(), Fault> {
+pub(crate) fn play(rt: &HostRuntime) -> Result<(), Fault> {
     for &(title, parts) in RUNS {
         println!(rt; "{title}")?;
         table::play(rt, 8, parts)?;

@@ -10,20 +10,7 @@ use Rattle.book.proofs.pages.Book.add_vote.Goals as goal
 
 -- a block with another set of voters
 with_voters : Block → ℕ → Block
-with_voters b q =
-    record {
-      view = b.view;
-      parent = b.parent;
-      payload = b.payload;
-      maker = b.maker;
-      height = b.height;
-      kind = b.kind;
-      heard = b.heard;
-      reports = b.reports;
-      certificate = b.certificate;
-      commit = b.commit;
-      voters = record { bits = q };
-    }
+with_voters b q = record b { voters = record { bits = q } }
 
 written_back : (bs : List Block) (k seat q : ℕ) (x : Block) → x ≡ at bs k → q ≡ with_seat seat (at bs k).voters.bits → set bs k (with_voters x q) ≡ vote_after bs seat k
 unfolding with_voters

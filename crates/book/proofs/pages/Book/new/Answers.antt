@@ -4,27 +4,13 @@ use Rattle.book.specs.Known.{Known}
 use Rattle.book.specs.Rules.{WellMade}
 use Rattle.book.specs.Pages.{no_reports, genesis}
 use Rattle.book.specs.declared.block.Block.{Block}
-use Rattle.book.specs.declared.block.Kind.TheVariants.{First}
 use Rattle.book.proofs.Growth.{known_first}
 use Rattle.book.proofs.Keeps.{well_first}
 use Rattle.book.proofs.pages.Book.new.Goals as goal
 
 -- the first block, by the set of its voters
 first : ℕ → Block
-first voters =
-    record {
-      view = 0;
-      parent = 0;
-      payload = 0;
-      maker = 0;
-      height = 0;
-      kind = First;
-      heard = record { bits = 0 };
-      reports = no_reports;
-      certificate = 0;
-      commit = 0;
-      voters = record { bits = voters };
-    }
+first voters = record (genesis 0) { voters = record { bits = voters } }
 
 one_block : (n v : ℕ) (xs ys : List Block) → ys ≡ xs ++ first v ∷ [] → xs ≡ [] → v ≡ everyone (min n 64) → ys ≡ genesis (min n 64) ∷ []
 unfolding first
