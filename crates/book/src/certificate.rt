@@ -6,6 +6,7 @@ use crate::pages::Book;
 use highest::highest;
 use letters::reports::Reports;
 use quorum::rule::QuorumRule;
+use std::array;
 
 impl Book {
     // A block's view and its certificate's view.
@@ -23,7 +24,7 @@ impl Book {
         requires reports_held { (s : ℕ) → slice_index reports.now s < vec_len self.now.blocks }
         ensures { result ≡ any_below (λ s. outranks self.now.blocks.items (slice_index reports.now s) parent) 64 }
     {
-        let ranks = reports.map(|report| self.rank_of(report));
+        let ranks: [(u32, u32); 64] = array::from_fn(|seat| self.rank_of(reports[seat]));
         highest(&ranks).is_some_and(|place| ranks[place] > self.rank_of(parent))
     }
 

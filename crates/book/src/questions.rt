@@ -7,7 +7,6 @@ ghost use Rattle.book.specs.Questions.{stands_told, on_chain, highest_view};
 use crate::block::Block;
 use crate::pages::Book;
 use highest::highest;
-use std::array;
 
 impl Book {
     // The number of blocks.
@@ -56,19 +55,15 @@ impl Book {
         self.chain(b).nth(above)
     }
 
-    // The view of a block, or 0 where there is none.
-    fn view_of(&self, b: usize) -> u32
-        ensures { result ≡ (at self.now.blocks.items b).view }
-    {
-        self.blocks.get(b).map_or(0, |block| block.view)
-    }
-
     // The highest view of a block in the book.
     pub fn highest_view(&self) -> Option<u32>
         ensures { result ≡ Some (highest_view self.now.blocks.items) }
     {
         // a row on the stack: nothing allocates after opening
-        let views: [u32; 256] = array::from_fn(|b| self.view_of(b));
+        let mut views = [0; 256];
+        for (b, block) in self.blocks.iter().enumerate() {
+            views[b] = block.view;
+        }
         let place = highest(&views)?;
         Some(views[place])
     }

@@ -12,7 +12,7 @@ pub fn highest<T: Ord>(row: &[T]) -> Option<usize>
     }
     let mut best = 0;
     for (place, thing) in row.iter().enumerate() {
-        if *thing > row[best] {
+        if thing.cmp(&row[best]).is_gt() {
             best = place;
         }
     }

@@ -2,8 +2,8 @@
 ghost use Rattle.std.specs.Prelude.{◌≡◌, true};
 ghost use Rattle.cluster.specs.Opening.{Opening};
 ghost use Rattle.protocol.specs.State.{fresh};
-ghost use Rattle.records.specs.declared.rehearsal.Stage.TheVariants.{New};
-ghost use Rattle.records.specs.Rehearsing.{rehearsed, rehearse_reasons, state_in, started_in, cluster_in, Plays};
+ghost use Rattle.records.specs.declared.rehearsal.Stage.TheVariants.{New, Unopened};
+ghost use Rattle.records.specs.Rehearsing.{rehearsed, rehearse_reasons, state_in, started_in, cluster_in, Opens, Plays};
 
 use crate::record::Record;
 use cluster::cluster::Cluster;
@@ -39,6 +39,27 @@ enum Stage {
     Open(Cluster<CountRule, RoundRobin>),
 }
 
+// What changes the stage stands in functions of its own: each needs room for a cluster on the stack, which the other
+// records do without.
+impl Stage {
+    // Opens a cluster by the first record.
+    fn start(&mut self, heap: Global, faults: u8, open_set: SeatSet) -> Result<u32, Refusal>
+        ensures { Opens faults open_set.bits (cluster_in self.old) result (cluster_in self.new) }
+    {
+        let cluster = open(heap, faults, open_set)?;
+        let seats = cluster.seats();
+        *self = Stage::Open(cluster);
+        Ok(u32::from(seats))
+    }
+
+    // A first record opened no cluster.
+    fn leave_unopened(&mut self)
+        ensures { self.new ≡ Unopened }
+    {
+        *self = Stage::Unopened;
+    }
+}
+
 // A rehearsal: how far it is, and its cluster, once that is open.
 #[derive(Drop)]
 pub struct Rehearsal {
@@ -59,10 +80,7 @@ impl Rehearsal {
     {
         match (record?, &mut self.stage) {
             (Record::Open { faults, open_set }, stage @ Stage::New) => {
-                let cluster = open(heap, faults, open_set)?;
-                let seats = cluster.seats();
-                *stage = Stage::Open(cluster);
-                Ok(u32::from(seats))
+                stage.start(heap, faults, open_set)
             }
             (Record::Call(call), Stage::Open(cluster)) => cluster.call(call),
             _ => Err(Refusal::RecordOutOfPlace),
@@ -76,7 +94,7 @@ impl Rehearsal {
     {
         let answer = self.answer(heap, record);
         if matches!(self.stage, Stage::New) {
-            self.stage = Stage::Unopened;
+            self.stage.leave_unopened();
         }
         answer
     }
