@@ -39,8 +39,8 @@ enum Stage {
     Open(Cluster<CountRule, RoundRobin>),
 }
 
-// What changes the stage stands in functions of its own: each needs room for a cluster on the stack, which the other
-// records do without.
+// What changes the stage stands in functions of its own: the room for a cluster that each needs is cleared where it is
+// called, and not at every record.
 impl Stage {
     // Opens a cluster by the first record.
     fn start(&mut self, heap: Global, faults: u8, open_set: SeatSet) -> Result<u32, Refusal>
