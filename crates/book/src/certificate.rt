@@ -24,6 +24,7 @@ impl Book {
         requires reports_held { (s : ℕ) → slice_index reports.now s < vec_len self.now.blocks }
         ensures { result ≡ any_below (λ s. outranks self.now.blocks.items (slice_index reports.now s) parent) 64 }
     {
+        // `from_fn`, since an array's `map` goes through a row of `Option`s
         let ranks: [(u32, u32); 64] = array::from_fn(|seat| self.rank_of(reports[seat]));
         highest(&ranks).is_some_and(|place| ranks[place] > self.rank_of(parent))
     }

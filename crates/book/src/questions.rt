@@ -59,7 +59,7 @@ impl Book {
     pub fn highest_view(&self) -> Option<u32>
         ensures { result ≡ Some (highest_view self.now.blocks.items) }
     {
-        // a row on the stack: nothing allocates after opening
+        // a row on the stack, since nothing allocates after opening; `from_fn` would ask for 256 blocks, held or not
         let mut views = [0; 256];
         for (b, block) in self.blocks.iter().enumerate() {
             views[b] = block.view;

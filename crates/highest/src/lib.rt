@@ -12,6 +12,7 @@ pub fn highest<T: Ord>(row: &[T]) -> Option<usize>
     }
     let mut best = 0;
     for (place, thing) in row.iter().enumerate() {
+        // `cmp`, since `>` of slices and arrays goes element by element
         if thing.cmp(&row[best]).is_gt() {
             best = place;
         }
